@@ -1,0 +1,114 @@
+-- The command table, and the bytes of commands. Assumes nothing.
+use mathlib.Core.Path.{_≡_, refl, sym, ap, subst, _∙_}
+use mathlib.Core.List.{List, [], _∷_, _++_}
+use Prim.Native.Nat.{ℕ, _+_, _*_, _/_, _%_, _^_, _≤_, _<_}
+use native.Mathlib.Omega.{arith}
+use lib.ListN.{length, getD, take, drop, length-take, length-drop, length-append, take-append-drop}
+use Rattle.std.proofs.shelf.Lists.{drop-all, drop-more, drop-drop, length-take-le, append-assoc}
+use Rattle.trace_file.specs.declared.event.Event.{Event}
+use Rattle.trace_file.specs.declared.event.Event.the-variants.{NmiEntry, NmiExit, IrqEntry, IrqExit, LocalIrqDisable, LocalIrqEnable, PreemptDisable, PreemptEnable, PreemptDisableSched, ScheduleEntry, SchedSwitch, ScheduleExit, PreemptEnableSched, NeedResched, SchedWaking}
+use Rattle.trace_file.specs.declared.event.Operand.{Operand}
+use Rattle.trace_file.specs.declared.event.Operand.the-variants.{Nothing, Identifier as Id, Thread}
+use Rattle.trace_file.specs.declared.event.Timed.{Timed}
+use Rattle.trace_file.specs.declared.identifier.Identifier.{Identifier}
+use Rattle.trace_file.specs.Event.{command, with, operand-with, timed-with}
+use Rattle.trace_file.specs.File.{Command, little, from-little, operand-bytes, encoded, end-command, Proper, Sound, size}
+use Rattle.trace_file.specs.Reading.{Stands, chars, as-read, IdentifierAt, OperandAt, EventAt, Front}
+
+-- how many bytes an operand takes
+abbrev pub operand-size : {I : Type 0} → Operand I → ℕ
+operand-size Nothing = 0
+operand-size (Id i) = 4
+operand-size (Thread t) = 2
+
+size-with : {I J : Type 0} (f : I → J) (o : Operand I) → operand-size (operand-with f o) ≡ operand-size o
+size-with f Nothing = refl
+size-with f (Id i) = refl
+size-with f (Thread t) = refl
+
+pub size-is : {I : Type 0} (e : Event I) → size (command e .0) ≡ 5 + operand-size (command e .1)
+size-is NmiEntry = refl
+size-is NmiExit = refl
+size-is (IrqEntry i) = refl
+size-is IrqExit = refl
+size-is LocalIrqDisable = refl
+size-is LocalIrqEnable = refl
+size-is PreemptDisable = refl
+size-is PreemptEnable = refl
+size-is PreemptDisableSched = refl
+size-is ScheduleEntry = refl
+size-is (SchedSwitch t) = refl
+size-is ScheduleExit = refl
+size-is PreemptEnableSched = refl
+size-is NeedResched = refl
+size-is (SchedWaking t) = refl
+
+pub command-with : {I J : Type 0} (f : I → J) (e : Event I) → command (with f e) ≡ (command e .0, operand-with f (command e .1))
+command-with f NmiEntry = refl
+command-with f NmiExit = refl
+command-with f (IrqEntry i) = refl
+command-with f IrqExit = refl
+command-with f LocalIrqDisable = refl
+command-with f LocalIrqEnable = refl
+command-with f PreemptDisable = refl
+command-with f PreemptEnable = refl
+command-with f PreemptDisableSched = refl
+command-with f ScheduleEntry = refl
+command-with f (SchedSwitch t) = refl
+command-with f ScheduleExit = refl
+command-with f PreemptEnableSched = refl
+command-with f NeedResched = refl
+command-with f (SchedWaking t) = refl
+
+-- bytes that begin with these parts are the parts and what follows them
+pub parted : (bs : List ℕ) (b : ℕ) (w o : List ℕ) (k : ℕ) → 5 + k ≤ length bs → b ≡ getD bs 0 0 → w ≡ take 4 (drop 1 bs) → o ≡ take k (drop 5 bs) → bs ≡ (b ∷ (w ++ o)) ++ drop (5 + k) bs
+parted bs b w o k fits first second third =
+    let head : bs ≡ getD bs 0 0 ∷ drop 1 bs = drop-more bs 0 0 (omega arith) in
+    let mid : drop 1 bs ≡ take 4 (drop 1 bs) ++ drop 5 bs = sym (take-append-drop 4 (drop 1 bs)) ∙ ap (λ l. take 4 (drop 1 bs) ++ l) (drop-drop 4 1 bs) in
+    let tail : drop 5 bs ≡ take k (drop 5 bs) ++ drop (5 + k) bs = sym (take-append-drop k (drop 5 bs)) ∙ ap (λ l. take k (drop 5 bs) ++ l) (drop-drop k 5 bs) in
+    let grouped = append-assoc w o (drop (5 + k) bs) in
+    cc
+
+bytes-size : (o : Operand (List ℕ)) → Proper o → length (operand-bytes o) ≡ operand-size o
+bytes-size Nothing h = refl
+bytes-size (Id cs) h = h .0
+bytes-size (Thread t) h = refl
+
+pub length-encoded : (c : Command) → Sound c → length (encoded c) ≡ 5 + operand-size (command (c .event) .1)
+length-encoded c h = let e = bytes-size _ (h .operand) in omega arith
+
+-- an operand that was read, as it stands in the file
+operand-stands : (at : ℕ) (bs : List ℕ) (o : Operand Identifier) → OperandAt at bs o → operand-bytes (operand-with chars o) ≡ take (operand-size o) (drop 5 bs)
+operand-stands at bs Nothing h = refl
+operand-stands at bs (Id i) h = h .part
+operand-stands at bs (Thread t) h = h .bytes
+
+operand-proper : (at : ℕ) (bs : List ℕ) (o : Operand Identifier) → 5 + operand-size o ≤ length bs → OperandAt at bs o → Proper (operand-with chars o)
+operand-proper at bs Nothing fits h = tt
+operand-proper at bs (Id i) fits h = (ap length (h .part) ∙ length-take-le 4 (drop 5 bs) (simp length-drop (omega arith)), h .form)
+operand-proper at bs (Thread t) fits h =
+    let e : t ≡ from-little (little 2 t) = h .says ∙ ap from-little (sym (h .bytes)) in
+    omega arith
+
+-- a command whose parts were read stands there, whole and sound
+pub front : (at : ℕ) (bs : List ℕ) (t : Timed Identifier) (k : ℕ) → k ≡ size (getD bs 0 0) → k ≤ length bs → (t .gap ≡ 0 → ⊥) → t .gap < 2 ^ 32 → Stands 4 (t .gap) (drop 1 bs) → EventAt at bs (t .event) → Front at bs t k
+front at bs t k is there some fits gap event =
+    let o : ℕ = operand-size (command (t .event) .1) in
+    let long : k ≡ 5 + o = is ∙ ap size (sym (event .begins)) ∙ size-is (t .event) in
+    let fit : 5 + o ≤ length bs = omega arith in
+    let said = command-with chars (t .event) in
+    let bytes = ap (λ c. operand-bytes (c .1)) said ∙ operand-stands at bs _ (event .operand) in
+    let sound : Sound (as-read t) = record {
+      ticks = omega arith;
+      fits = fits;
+      operand = subst (λ c. Proper (c .1)) (sym said) (operand-proper at bs _ fit (event .operand));
+    } in
+    record {
+      stands = rw long (parted bs _ _ _ o fit (ap (λ c. c .0) said ∙ event .begins) (gap .bytes) bytes);
+      long = long ∙ sym (length-encoded (as-read t) sound ∙ ap (λ c. 5 + operand-size (c .1)) said ∙ ap (λ n. 5 + n) (size-with _ (command (t .event) .1)));
+      sound = sound;
+      operand = event .operand;
+    }
+
+pub end-stands : (bs : List ℕ) (n : ℕ) → getD bs 0 0 ≡ 0 → length bs ≡ 5 → Stands 4 n (drop 1 bs) → bs ≡ end-command n
+end-stands bs n first long h = parted bs 0 (little 4 n) [] 0 (omega arith) (sym first) (h .bytes) refl ∙ ap (λ l. end-command n ++ l) (drop-all 5 bs (omega arith))

@@ -1,0 +1,5 @@
+pub mod Event
+pub mod Fault
+pub mod File
+pub mod Identifier
+pub mod Reading

@@ -1,0 +1,10 @@
+// Reads trace files: faults, events, identifiers, commands, and the check of a whole file.
+mod command;
+pub mod event;
+pub mod fault;
+pub mod identifier;
+pub mod reader;
+mod reading;
+
+pub use command::MOST_EVENTS;
+pub use reading::check;

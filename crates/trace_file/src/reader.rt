@@ -1,0 +1,16 @@
+// A place in a file that is being read, with the events before it.
+ghost use Prim.Native.Nat.{_+_, _^_, _<_};
+ghost use lib.ListN.{length};
+
+pub struct Reader<'a> {
+    pub(crate) rest: &'a [u8],
+    pub(crate) at: usize,
+    pub(crate) events: u32,
+    ghost within: { at + length (rest .now) < 2 ^ 64 },
+}
+
+impl Drop for Reader<'_> {
+    fn drop(self) {
+        let Reader { rest: _, at: _, events: _ } = self;
+    }
+}
