@@ -1,7 +1,7 @@
 -- Trace files: the bytes of a command, what a file reads as, and what is refused of one. Assumes nothing.
 use mathlib.Core.Path.{_≡_}
 use mathlib.Core.Bool.{cond, _||_}
-use mathlib.Core.List.{List, [], _∷_, _++_}
+use mathlib.Core.List.{List, [], _∷_, _++_, map}
 use Prim.Native.Nat.{ℕ, zero, suc, _+_, _*_, _/_, _%_, _^_, _<_, _≤_}
 use lib.Dec.{eqb}
 use lib.ListN.{length, getD, take, drop}
@@ -11,9 +11,9 @@ use Rattle.trace_file.specs.declared.event.Operand.{Operand}
 use Rattle.trace_file.specs.declared.event.Operand.the-variants.{Nothing, Identifier, Thread}
 use Rattle.trace_file.specs.declared.event.Timed.{Timed}
 use Rattle.trace_file.specs.declared.fault.Parts.{Parts}
-use Rattle.trace_file.specs.Event.{command}
+use Rattle.trace_file.specs.Event.{command, timed-with}
 use Rattle.trace_file.specs.Fault.{Rule, First}
-use Rattle.trace_file.specs.Identifier.{Form}
+use Rattle.trace_file.specs.Identifier.{Form, number}
 
 -- an event command as it stands in a file, with the characters of its identifier
 abbrev pub Command : Type 0
@@ -60,6 +60,16 @@ pub record Reads (bs : List ℕ) (cs : List Command) : Type 0 where
   pub whole : bs ≡ joined encoded cs ++ end-command (length cs)
   pub sound : All Sound cs
   pub few : length cs ≤ most-events
+
+-- the event that a command says, with the number of its identifier
+abbrev pub meant : Command → Timed ℕ
+meant c = timed-with number c
+
+-- the bytes are a file of these events
+pub record FileOf (bs : List ℕ) (es : List (Timed ℕ)) : Type 0 where
+  pub commands : List Command
+  pub reads : Reads bs commands
+  pub events : map meant commands ≡ es
 
 -- how many bytes the command that begins with this byte has
 abbrev pub size : ℕ → ℕ

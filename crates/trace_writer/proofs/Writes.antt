@@ -1,0 +1,65 @@
+-- Bytes written after one another, and the bytes of a command. Assumes nothing.
+use mathlib.Core.Path.{_≡_, refl, sym, ap, subst, _∙_}
+use mathlib.Core.List.{List, [], _∷_, _++_, append-assoc}
+use Prim.Native.Nat.{ℕ, _+_, _*_, _/_, _%_, _^_, _≤_, _<_}
+use native.Mathlib.Omega.{arith}
+use native.Mathlib.Nat.{add-zero, div-div-eq-div-mul}
+use lib.ListN.{length, take, drop, length-append, length-drop, take-append-drop}
+use Rattle.std.proofs.shelf.Lists.{take-at, drop-at, drop-drop, length-take-le}
+use Rattle.trace_file.specs.declared.event.Event.{Event}
+use Rattle.trace_file.specs.declared.event.Operand.{Operand}
+use Rattle.trace_file.specs.declared.event.Operand.the-variants.{Nothing, Identifier, Thread}
+use Rattle.trace_file.specs.declared.event.Timed.{Timed}
+use Rattle.trace_file.specs.Event.{command, with, operand-with, timed-with}
+use Rattle.trace_file.specs.File.{Command, little, operand-bytes, encoded, end-command}
+use Rattle.trace_file.specs.Identifier.{padded}
+use Rattle.trace_file.proofs.Commands.{command-with}
+use Rattle.trace_writer.specs.Writing.{written, command-for}
+
+pub length-written : (out : List ℕ) (at : ℕ) (xs : List ℕ) → at + length xs ≤ length out → length (written out at xs) ≡ length out
+length-written out at xs h =
+    simp (length-append, length-drop) (let e = length-take-le at out (omega arith) in omega arith)
+
+pub written-none : (out : List ℕ) (at : ℕ) → written out at [] ≡ out
+written-none out at = ap (λ n. take at out ++ drop n out) (add-zero at) ∙ take-append-drop at out
+
+module _ (out : List ℕ) (at : ℕ) (xs : List ℕ) (h : at ≤ length out) where
+  grouped : written out at xs ≡ (take at out ++ xs) ++ drop (at + length xs) out
+  grouped = sym (append-assoc (take at out) xs (drop (at + length xs) out))
+
+  long : length (take at out ++ xs) ≡ at + length xs
+  long = length-append (take at out) xs ∙ ap (λ n. n + length xs) (length-take-le at out h)
+
+  pub take-written : take (at + length xs) (written out at xs) ≡ take at out ++ xs
+  take-written = ap (take (at + length xs)) grouped ∙ take-at (take at out ++ xs) _ _ long
+
+  pub drop-written : drop (at + length xs) (written out at xs) ≡ drop (at + length xs) out
+  drop-written = ap (drop (at + length xs)) grouped ∙ drop-at (take at out ++ xs) _ _ long
+
+  pub written-more : (ys : List ℕ) → written (written out at xs) (at + length xs) ys ≡ written out at (xs ++ ys)
+  written-more ys =
+      let n = at + length xs in
+      let last = sym (drop-drop (length ys) n (written out at xs)) ∙ ap (drop (length ys)) drop-written ∙ drop-drop (length ys) n out in
+      let count : n + length ys ≡ at + length (xs ++ ys) = simp length-append (omega arith) in
+      (λ i. take-written i ++ (ys ++ last i))
+      ∙ append-assoc (take at out) xs (ys ++ drop (n + length ys) out)
+      ∙ ap (λ l. take at out ++ l) (sym (append-assoc xs ys (drop (n + length ys) out)) ∙ ap (λ m. (xs ++ ys) ++ drop m out) count)
+
+pub little-four : (n : ℕ) → _≡_ {A = List ℕ} (n % 256 ∷ n / 256 % 256 ∷ n / 65536 % 256 ∷ n / 16777216 % 256 ∷ []) (little 4 n)
+little-four n =
+    let p : n / 256 / 256 ≡ n / 65536 = div-div-eq-div-mul n 256 256 in
+    let q : n / 256 / 256 / 256 ≡ n / 16777216 = ap (λ m. m / 256) p ∙ div-div-eq-div-mul n 65536 256 in
+    λ i. n % 256 ∷ n / 256 % 256 ∷ sym p i % 256 ∷ sym q i % 256 ∷ []
+
+module _ (gap : ℕ) (e : Event ℕ) (b : ℕ) (o : Operand ℕ) (is : (b, o) ≡ command e) where
+  -- the bytes of a command, by its table entry
+  pub bytes-are : encoded (command-for (record { gap = gap; event = e })) ≡ b ∷ (little 4 gap ++ operand-bytes (operand-with padded o))
+  bytes-are =
+      ap (λ c. c .0 ∷ (little 4 gap ++ operand-bytes (c .1))) (command-with padded e)
+      ∙ ap (λ c. c .0 ∷ (little 4 gap ++ operand-bytes (operand-with padded (c .1)))) (sym is)
+
+  pub command-written : (out p q r : List ℕ) (at : ℕ) → at ≤ length out → p ≡ written out at (b ∷ []) → q ≡ written p (at + 1) (little 4 gap) → r ≡ written q (at + 5) (operand-bytes (operand-with padded o)) → r ≡ written out at (encoded (command-for (record { gap = gap; event = e })))
+  command-written out p q r at fits first second third =
+      let bs = operand-bytes (operand-with padded o) in
+      let front = second ∙ ap (λ l. written l (at + 1) (little 4 gap)) first ∙ written-more out at (b ∷ []) fits (little 4 gap) in
+      third ∙ ap (λ l. written l (at + 5) bs) front ∙ written-more out at (b ∷ little 4 gap) fits bs ∙ ap (written out at) (sym bytes-are)

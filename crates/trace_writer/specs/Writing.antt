@@ -1,0 +1,63 @@
+-- What is written of events, and what of them is refused. Assumes nothing.
+use mathlib.Core.Path.{_≡_}
+use mathlib.Core.List.{List, [], _∷_, _++_, map}
+use Prim.Native.Nat.{ℕ, _+_, _^_, _<_, _≤_}
+use lib.ListN.{length, take, drop}
+use Rattle.std.specs.Joined.{joined}
+use Rattle.std.specs.shelf.Lists.{All}
+use Rattle.trace_file.specs.declared.event.Operand.{Operand}
+use Rattle.trace_file.specs.declared.event.Operand.the-variants.{Nothing, Identifier, Thread}
+use Rattle.trace_file.specs.declared.event.Timed.{Timed}
+use Rattle.trace_file.specs.declared.fault.Parts.{Parts}
+use Rattle.trace_file.specs.Event.{command, timed-with}
+use Rattle.trace_file.specs.Fault.{Rule, First, None-of}
+use Rattle.trace_file.specs.File.{Command, encoded, end-command, most-events}
+use Rattle.trace_file.specs.Identifier.{padded}
+
+-- the bytes with others written over them from a place on
+abbrev pub written : List ℕ → ℕ → List ℕ → List ℕ
+written out at bs = take at out ++ (bs ++ drop (at + length bs) out)
+
+-- the command that is written of an event: its identifier has zeros on the left
+abbrev pub command-for : Timed ℕ → Command
+command-for e = timed-with padded e
+
+-- an operand that an identifier or two bytes can hold
+abbrev pub Small : Operand ℕ → Type 0
+Small Nothing = Unit {0}
+Small (Identifier n) = n ≤ 9999
+Small (Thread t) = t < 2 ^ 16
+
+-- an event that a file can hold
+pub record Writable (e : Timed ℕ) : Type 0 where
+  pub ticks : 0 < e .gap
+  pub fits : e .gap < 2 ^ 32
+  pub operand : Small (command (e .event) .1)
+
+-- an identifier that four digits cannot hold
+abbrev pub Great : Operand ℕ → Type 0
+Great Nothing = ⊥
+Great (Identifier n) = 9999 < n
+Great (Thread t) = ⊥
+
+abbrev pub in-writer : ℕ → ℕ → Parts
+in-writer number place = record { layer = 5; number = number; ground = 0; place = place }
+
+-- What is refused of an event after n events in so many bytes, where there are room bytes, in the order in which it is tested.
+abbrev pub put-refusals : ℕ → ℕ → ℕ → Timed ℕ → List Rule
+put-refusals n at room e =
+    record { when = most-events ≤ n; gives = in-writer 10 at }
+    ∷ record { when = e .gap ≡ 0; gives = in-writer 3 at }
+    ∷ record { when = Great (command (e .event) .1); gives = in-writer 4 at }
+    ∷ record { when = room < at + length (encoded (command-for e)); gives = in-writer 15 at }
+    ∷ []
+
+-- And of the end command.
+abbrev pub close-refusals : ℕ → ℕ → List Rule
+close-refusals at room = record { when = room < at + 5; gives = in-writer 15 at } ∷ []
+
+-- an event that is not refused, and how many bytes it takes
+pub record Admitted (n at room : ℕ) (e : Timed ℕ) (k : ℕ) : Type 0 where
+  pub none : None-of (put-refusals n at room e)
+  pub writable : Writable e
+  pub size : k ≡ length (encoded (command-for e))

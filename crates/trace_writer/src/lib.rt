@@ -1,0 +1,5 @@
+// Writes trace files: an open writer, all events at once, and a file again in one padding.
+mod admission;
+mod bytes;
+pub mod writer;
+mod writing;

@@ -1,0 +1,60 @@
+// Puts events into output bytes, one after another.
+ghost use mathlib.Core.Path.{_≡_};
+ghost use mathlib.Core.List.{List, []};
+ghost use Prim.Native.Nat.{ℕ};
+ghost use Rattle.trace_file.specs.declared.event.Timed.{Timed};
+ghost use Rattle.trace_writer.specs.Putting.{Holds, Put, Puts, Closed, Closes};
+use crate::admission::admit;
+use crate::admission::refused;
+use crate::bytes::write;
+use crate::bytes::write_end;
+use crate::writer::Unclosed;
+use crate::writer::Writer;
+use trace_file::event::Event;
+use trace_file::fault::Fault;
+use trace_file::fault::Refusal;
+
+impl Writer {
+    pub fn open() -> Writer
+        ensures start { λ w. ⌜ (w .at ≡ 0) × (w .events ≡ 0) ⌝ }
+        ensures law { λ w. ⌜ ((out : List ℕ) → Holds w out []) ⌝ }
+    {
+        Writer { at: 0, events: 0 }
+    }
+
+    // Writes an event, its identifier by its number, after those before it. Answers how many there are.
+    pub fn put(&mut self, out: &mut [u8], gap: u32, event: Event<u32>) -> Result<u32, Fault>
+        ensures outcome { λ r. ⌜ Put (now (self .entry)) (now (out .entry)) (record { gap = gap; event = event }) r (now (self .exit)) (now (out .exit)) ⌝ }
+        ensures law { λ r. ⌜ ((es : List (Timed ℕ)) → Holds (now (self .entry)) (now (out .entry)) es → Puts es (record { gap = gap; event = event }) r (now (self .exit)) (now (out .exit))) ⌝ }
+    {
+        admit(self.events, self.at, out.len(), gap, event)?;
+        self.at += write(out, self.at, gap, event);
+        self.events += 1;
+        Ok(self.events)
+    }
+
+    // Writes the end command. Answers how many bytes the file has, or hands the open writer back.
+    pub fn close(self, out: &mut [u8]) -> Result<usize, Unclosed>
+        ensures outcome { λ r. ⌜ Closed self (now (out .entry)) r (now (out .exit)) ⌝ }
+        ensures law { λ r. ⌜ ((es : List (Timed ℕ)) → Holds self (now (out .entry)) es → Closes es r (now (out .exit))) ⌝ }
+    {
+        let at = self.at;
+        if out.len() < at || out.len() - at < 5 {
+            return Err(Unclosed {
+                writer: self,
+                fault: refused(Refusal::NoSpace, at),
+            });
+        }
+        let Writer { at, events } = self;
+        write_end(out, at, events);
+        Ok(at + 5)
+    }
+
+    // Ends the writing where it is. Answers how many bytes were written.
+    pub fn give_up(self) -> usize
+        ensures { λ r. ⌜ r ≡ self .at ⌝ }
+    {
+        let Writer { at, events: _ } = self;
+        at
+    }
+}
