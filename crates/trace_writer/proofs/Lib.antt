@@ -1,2 +1,3 @@
+pub mod Alls
 pub mod Held
 pub mod Writes

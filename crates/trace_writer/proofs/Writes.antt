@@ -3,7 +3,7 @@ use mathlib.Core.Path.{_≡_, refl, sym, ap, subst, _∙_}
 use mathlib.Core.List.{List, [], _∷_, _++_, append-assoc}
 use Prim.Native.Nat.{ℕ, _+_, _*_, _/_, _%_, _^_, _≤_, _<_}
 use native.Mathlib.Omega.{arith}
-use native.Mathlib.Nat.{add-zero, div-div-eq-div-mul}
+use native.Mathlib.Nat.{add-zero, zero-add, div-div-eq-div-mul}
 use lib.ListN.{length, take, drop, length-append, length-drop, take-append-drop}
 use Rattle.std.proofs.shelf.Lists.{take-at, drop-at, drop-drop, length-take-le}
 use Rattle.trace_file.specs.declared.event.Event.{Event}
@@ -44,6 +44,11 @@ module _ (out : List ℕ) (at : ℕ) (xs : List ℕ) (h : at ≤ length out) whe
       (λ i. take-written i ++ (ys ++ last i))
       ∙ append-assoc (take at out) xs (ys ++ drop (n + length ys) out)
       ∙ ap (λ l. take at out ++ l) (sym (append-assoc xs ys (drop (n + length ys) out)) ∙ ap (λ m. (xs ++ ys) ++ drop m out) count)
+
+-- bytes that are written right after others, from the start on
+pub written-on : (out p q xs ys : List ℕ) (at : ℕ) → p ≡ written out 0 xs → at ≡ length xs → q ≡ written p at ys → q ≡ written out 0 (xs ++ ys)
+written-on out p q xs ys at first long second =
+    second ∙ ap (λ l. written l at ys) first ∙ ap (λ n. written (written out 0 xs) n ys) (long ∙ sym (zero-add (length xs))) ∙ written-more out 0 xs (omega arith) ys
 
 pub little-four : (n : ℕ) → _≡_ {A = List ℕ} (n % 256 ∷ n / 256 % 256 ∷ n / 65536 % 256 ∷ n / 16777216 % 256 ∷ []) (little 4 n)
 little-four n =

@@ -1,9 +1,8 @@
 -- What an open writer does with each call. Assumes nothing.
 use mathlib.Core.Path.{_≡_}
-use mathlib.Core.List.{List, [], _∷_, _++_, map}
+use mathlib.Core.List.{List, [], _∷_, _++_}
 use Prim.Native.Nat.{ℕ, _+_, _≤_}
 use lib.ListN.{length, take}
-use Rattle.std.specs.Joined.{joined}
 use Rattle.std.specs.shelf.Lists.{All}
 use Rattle.std.specs.declared.result.Result.{Result}
 use Rattle.std.specs.declared.result.Result.the-variants.{Ok, Err}
@@ -13,12 +12,12 @@ use Rattle.trace_file.specs.Fault.{First, None-of, parts}
 use Rattle.trace_file.specs.File.{FileOf, encoded, end-command, most-events}
 use Rattle.trace_writer.specs.declared.writer.Unclosed.{Unclosed}
 use Rattle.trace_writer.specs.declared.writer.Writer.{Writer}
-use Rattle.trace_writer.specs.Writing.{written, command-for, Writable, put-refusals, close-refusals}
+use Rattle.trace_writer.specs.Writing.{written, command-for, bytes-of, Writable, put-refusals, close-refusals}
 
 -- the bytes written so far hold these events
 pub record Holds (w : Writer) (out : List ℕ) (es : List (Timed ℕ)) : Type 0 where
   pub within : w .at ≤ length out
-  pub bytes : take (w .at) out ≡ joined encoded (map command-for es)
+  pub bytes : take (w .at) out ≡ bytes-of es
   pub writable : All Writable es
   pub few : length es ≤ most-events
   pub events : w .events ≡ length es

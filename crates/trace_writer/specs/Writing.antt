@@ -22,6 +22,10 @@ written out at bs = take at out ++ (bs ++ drop (at + length bs) out)
 abbrev pub command-for : Timed ℕ → Command
 command-for e = timed-with padded e
 
+-- the bytes that are written of events, one after another
+abbrev pub bytes-of : List (Timed ℕ) → List ℕ
+bytes-of es = joined encoded (map command-for es)
+
 -- an operand that an identifier or two bytes can hold
 abbrev pub Small : Operand ℕ → Type 0
 Small Nothing = Unit {0}

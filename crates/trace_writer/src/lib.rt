@@ -1,5 +1,8 @@
 // Writes trace files: an open writer, all events at once, and a file again in one padding.
 mod admission;
+mod all;
 mod bytes;
 pub mod writer;
 mod writing;
+
+pub use all::write_all;
