@@ -21,7 +21,7 @@ operand-size Nothing = 0
 operand-size (Id i) = 4
 operand-size (Thread t) = 2
 
-size-with : {I J : Type 0} (f : I → J) (o : Operand I) → operand-size (operand-with f o) ≡ operand-size o
+pub size-with : {I J : Type 0} (f : I → J) (o : Operand I) → operand-size (operand-with f o) ≡ operand-size o
 size-with f Nothing = refl
 size-with f (Id i) = refl
 size-with f (Thread t) = refl
@@ -59,6 +59,45 @@ command-with f ScheduleExit = refl
 command-with f PreemptEnableSched = refl
 command-with f NeedResched = refl
 command-with f (SchedWaking t) = refl
+
+pub with-with : {I J K : Type 0} (f : I → J) (g : J → K) (e : Event I) → with g (with f e) ≡ with (λ i. g (f i)) e
+with-with f g NmiEntry = refl
+with-with f g NmiExit = refl
+with-with f g (IrqEntry i) = refl
+with-with f g IrqExit = refl
+with-with f g LocalIrqDisable = refl
+with-with f g LocalIrqEnable = refl
+with-with f g PreemptDisable = refl
+with-with f g PreemptEnable = refl
+with-with f g PreemptDisableSched = refl
+with-with f g ScheduleEntry = refl
+with-with f g (SchedSwitch t) = refl
+with-with f g ScheduleExit = refl
+with-with f g PreemptEnableSched = refl
+with-with f g NeedResched = refl
+with-with f g (SchedWaking t) = refl
+
+-- what is done to identifiers leaves the bytes of other operands alone
+pub same-bytes : (f : List ℕ → List ℕ) (e : Event (List ℕ)) → (command e .0 ≡ 3 → ⊥) → operand-bytes (operand-with f (command e .1)) ≡ operand-bytes (command e .1)
+same-bytes f NmiEntry h = refl
+same-bytes f NmiExit h = refl
+same-bytes f (IrqEntry i) h = absurd (h refl)
+same-bytes f IrqExit h = refl
+same-bytes f LocalIrqDisable h = refl
+same-bytes f LocalIrqEnable h = refl
+same-bytes f PreemptDisable h = refl
+same-bytes f PreemptEnable h = refl
+same-bytes f PreemptDisableSched h = refl
+same-bytes f ScheduleEntry h = refl
+same-bytes f (SchedSwitch t) h = refl
+same-bytes f ScheduleExit h = refl
+same-bytes f PreemptEnableSched h = refl
+same-bytes f NeedResched h = refl
+same-bytes f (SchedWaking t) h = refl
+
+-- the bytes of a command whose identifier was turned into another
+pub encoded-with : {I : Type 0} (f : I → List ℕ) (t : Timed I) → encoded (timed-with f t) ≡ command (t .event) .0 ∷ (little 4 (t .gap) ++ operand-bytes (operand-with f (command (t .event) .1)))
+encoded-with f t = ap (λ c. c .0 ∷ (little 4 (t .gap) ++ operand-bytes (c .1))) (command-with f (t .event))
 
 -- bytes that begin with these parts are the parts and what follows them
 pub parted : (bs : List ℕ) (b : ℕ) (w o : List ℕ) (k : ℕ) → 5 + k ≤ length bs → b ≡ getD bs 0 0 → w ≡ take 4 (drop 1 bs) → o ≡ take k (drop 5 bs) → bs ≡ (b ∷ (w ++ o)) ++ drop (5 + k) bs

@@ -4,13 +4,15 @@ use mathlib.Core.Logic.{_⊎_, inl, inr, ⊎-elim}
 use mathlib.Core.List.{List, [], _∷_}
 use Prim.Native.Nat.{ℕ, _+_, _-_, _*_, _^_, _≤_, _<_}
 use native.Mathlib.Omega.{arith}
-use native.Mathlib.Nat.{pow-suc}
+use native.Mathlib.Nat.{mul-assoc, mul-le-mul-right, pow-suc, pow-succ'}
 use native.Mathlib.Numerals.{add-one}
 use mathlib.Core.Bool.{true, false, cond, _&&_}
 use lib.Dec.{eqb, leb}
 use lib.ListN.{length, getD, drop}
+use Rattle.std.specs.shelf.Lists.{All}
+use Rattle.std.proofs.shelf.Elements.{all-from-getD}
 use Rattle.std.proofs.shelf.Lists.{at-drop-more, at-drop-all}
-use Rattle.std.proofs.shelf.Tests.{cases-order, cases-lt, ne-eqb, eq-eqb, lt-leb, and-right, cond-true, cond-false}
+use Rattle.std.proofs.shelf.Tests.{cases-eq, cases-order, cases-lt, ne-eqb, eq-eqb, lt-leb, and-right, cond-true, cond-false}
 use Rattle.trace_file.specs.declared.identifier.Kind.{Kind}
 use Rattle.trace_file.specs.declared.identifier.Kind.the-variants.{Blank, Digit, Other}
 use Rattle.trace_file.specs.Identifier.{kind, Run, Form, number, number-after}
@@ -93,3 +95,25 @@ module _ (cs : List ℕ) (i n : ℕ) (said : Said cs i n) (lt : i < length cs) w
 
 pub said-all : (cs : List ℕ) (i n : ℕ) → Said cs i n → length cs ≤ i → n ≡ number cs
 said-all cs i n said le = sym (at-drop-all (number-after n) cs i le) ∙ said .rest
+
+-- digits say less than one more than there is room for
+below-room : (cs : List ℕ) (n : ℕ) → All (λ c. kind c ≡ Other → ⊥) cs → number-after n cs < (n + 1) * 10 ^ length cs
+below-room [] n h = omega arith
+below-room (c ∷ cs) n h =
+    let m : ℕ = cond (eqb c 32) n (n * 10 + (c - 48)) in
+    let step : m + 1 ≤ (n + 1) * 10 = ⊎-elim (λ e. omega (arith, cond-true (eqb c 32) n (n * 10 + (c - 48)) (eq-eqb c 32 e)))
+        (λ ne. let small : c ≤ 57 = ⊎-elim (λ l. absurd (h .0 (other c ne l))) (λ l. l) (cases-lt 57 c) in omega (arith, cond-false (eqb c 32) n (n * 10 + (c - 48)) (ne-eqb c 32 ne)))
+        (cases-eq c 32) in
+    let more : (m + 1) * 10 ^ length cs ≤ (n + 1) * 10 * 10 ^ length cs = mul-le-mul-right (10 ^ length cs) step in
+    omega (arith, below-room cs m (h .1), more, mul-assoc (n + 1) 10 (10 ^ length cs), ap (λ x. (n + 1) * x) (pow-succ' 10 (length cs)))
+
+plain : (k : Kind) → (k ≡ Blank) ⊎ (k ≡ Digit) → k ≡ Other → ⊥
+plain k either e = let z : _≡_ {A = ℕ} 0 1 = ⊎-elim (λ p. cc) (λ p. cc) either in omega arith
+
+-- an identifier's number has at most four digits
+pub number-small : (cs : List ℕ) → Form cs → length cs ≡ 4 → number cs ≤ 9999
+number-small cs f long =
+    let each : (i : ℕ) → i < length cs → kind (getD cs i 0) ≡ Other → ⊥ =
+        λ i lt. plain _ (⊎-elim (λ l. inl (f .before i l)) (λ ge. ⊎-elim (λ l. inr (f .digits i ge l)) (λ past. inl (f .after i past lt)) (cases-lt i (f .to))) (cases-lt i (f .from))) in
+    let bound = below-room cs 0 (all-from-getD (λ c. kind c ≡ Other → ⊥) cs 0 each) in
+    omega (arith, rw long at bound)

@@ -1,3 +1,4 @@
 pub mod Alls
 pub mod Held
+pub mod Tidied
 pub mod Writes

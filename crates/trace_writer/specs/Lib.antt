@@ -1,3 +1,4 @@
 pub mod All
 pub mod Putting
+pub mod Tidying
 pub mod Writing

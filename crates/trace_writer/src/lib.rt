@@ -2,7 +2,9 @@
 mod admission;
 mod all;
 mod bytes;
+mod tidying;
 pub mod writer;
 mod writing;
 
 pub use all::write_all;
+pub use tidying::tidy;

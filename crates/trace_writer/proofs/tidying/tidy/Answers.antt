@@ -1,0 +1,31 @@
+use mathlib.Core.Path.{_≡_, refl, sym, ap, subst, _∙_}
+use Prim.Native.Nat.{_≤_}
+use native.Mathlib.Omega.{arith}
+use lib.ListN.{length}
+use Rattle.std.specs.declared.result.Result.the-variants.{Ok}
+use Rattle.trace_file.specs.Reading.{Next, Says}
+use Rattle.trace_writer.proofs.Tidied.{Halfway, copied, room-over, one-more, finished}
+use Rattle.trace_writer.proofs.Writes.{length-written}
+use Rattle.trace_writer.proofs.tidying.tidy.Needs as need
+
+pub loop-reader-holds : need.loop-reader-holds
+loop-reader-holds c = (_, copied _ _ _ _ (c .copy .ensures) (c .new-reader .ensures))
+
+pub pad-requires : need.pad-requires
+pad-requires c κs =
+    let took = subst (λ o. Next (c .loop-reader .reader) (Ok o) (c .next .last .self)) (c .in-Some .is) (c .in-Continue-timed .ensures tt .step) in
+    let room : length (c .args .file .now) ≤ length (c .copy .last .out) = omega arith in
+    room-over _ _ _ _ _ _ (c .loop-reader .inv .1) room _ took
+
+pub loop-reader-again : need.loop-reader-again
+loop-reader-again c =
+    let took = subst (λ o. Next (c .loop-reader .reader) (Ok o) (c .next .last .self)) (c .in-Some .is) (c .in-Continue-timed .ensures tt .step) in
+    let room : length (c .args .file .now) ≤ length (c .copy .last .out) = omega arith in
+    (_, subst (Halfway _ _ _ _) (sym (c .pad .ensures)) (one-more _ _ _ _ _ _ (c .loop-reader .inv .1) room _ took))
+
+pub returns : need.returns
+returns c =
+    let cs = c .loop-reader .inv .0 in
+    let half = c .loop-reader .inv .1 in
+    let reads = subst (λ o. Says (c .args .file .now) cs (Ok o) (c .next .last .self)) (c .in-rest .is) (c .in-Continue-timed .ensures tt .law _ cs (half .read)) in
+    finished _ _ _ _ cs _ (c .if-out-file .left) (c .copy .ensures) half reads

@@ -1,0 +1,76 @@
+-- A file written again with every identifier in the writer's padding. Assumes nothing.
+use mathlib.Core.Path.{_≡_}
+use mathlib.Core.Logic.{_⊎_}
+use mathlib.Core.List.{List, [], _∷_, _++_, map}
+use Prim.Native.Nat.{ℕ, _+_, _≤_, _<_}
+use lib.ListN.{length, getD, take}
+use Rattle.std.specs.Joined.{joined}
+use Rattle.std.specs.declared.result.Result.{Result}
+use Rattle.std.specs.declared.result.Result.the-variants.{Ok, Err}
+use Rattle.trace_file.specs.declared.event.Operand.{Operand}
+use Rattle.trace_file.specs.declared.event.Operand.the-variants.{Nothing, Identifier as Id, Thread}
+use Rattle.trace_file.specs.declared.event.Timed.{Timed}
+use Rattle.trace_file.specs.declared.fault.Fault.{Fault}
+use Rattle.trace_file.specs.declared.identifier.Identifier.{Identifier}
+use Rattle.trace_file.specs.Event.{command, timed-with}
+use Rattle.trace_file.specs.Fault.{parts}
+use Rattle.trace_file.specs.File.{Command, Reads, Refuses, FileOf, encoded, end-command}
+use Rattle.trace_file.specs.Identifier.{number, padded}
+use Rattle.trace_writer.specs.Writing.{written, in-writer}
+
+-- a command with its identifier in the writer's padding
+abbrev pub tidied : Command → Command
+tidied c = timed-with (λ cs. padded (number cs)) c
+
+-- the file of these commands with all identifiers so
+abbrev pub tidy-file : List Command → List ℕ
+tidy-file cs = joined encoded (map tidied cs) ++ end-command (length cs)
+
+-- a place of the file at which a character of an identifier stands
+pub record InIdentifier (cs : List Command) (k : ℕ) : Type 0 where
+  pub before : List Command
+  pub at : Command
+  pub after : List Command
+  pub whole : cs ≡ before ++ at ∷ after
+  pub entry : command (at .event) .0 ≡ 3
+  pub from : length (joined encoded before) + 5 ≤ k
+  pub to : k < length (joined encoded before) + 9
+
+-- The file was written again: the output bytes, all of them, and what they are.
+pub record HasTidied (file out : List ℕ) (n : ℕ) (after : List ℕ) : Type 0 where
+  pub commands : List Command
+  pub reads : Reads file commands
+  pub room : length file ≤ length out
+  pub answer : n ≡ length file
+  pub bytes : after ≡ written out 0 (tidy-file commands)
+  -- it has the length of the file, and reads as the file's commands in the writer's padding
+  pub long : length (tidy-file commands) ≡ length file
+  pub tidy : Reads (take n after) (map tidied commands)
+  -- it is a file of the same events
+  pub back : (es : List (Timed ℕ)) → FileOf file es → FileOf (take n after) es
+  -- it differs from the file in the characters of identifiers alone
+  pub alone : (k : ℕ) → k < n → (InIdentifier commands k → ⊥) → getD after k 0 ≡ getD file k 0
+  -- tidied again it stays as it is
+  pub again : tidy-file (map tidied commands) ≡ take n after
+
+abbrev pub Tidies : List ℕ → List ℕ → Result ℕ Fault → List ℕ → Type 0
+Tidies file out (Ok n) after = HasTidied file out n after
+Tidies file out (Err f) after = (Refuses file (parts f) ⊎ (((cs : List Command) × Reads file cs) × (length out < length file) × (parts f ≡ in-writer 15 0))) × (after ≡ out)
+
+-- the bytes with the identifier of an operand that was read in the writer's padding
+abbrev pub over : List ℕ → Operand Identifier → List ℕ
+over out Nothing = out
+over out (Id i) = written out (i .place) (padded (i .number))
+over out (Thread t) = out
+
+-- there is room for that
+abbrev pub Over : List ℕ → Operand Identifier → Type 0
+Over out Nothing = Unit {0}
+Over out (Id i) = (i .number ≤ 9999) × (i .place + 4 ≤ length out)
+Over out (Thread t) = Unit {0}
+
+-- so many of these commands have their identifier in another padding
+pub data Untidy : List Command → ℕ → Type 0 where
+  none : Untidy [] 0
+  same : {cs : List Command} {n : ℕ} (c : Command) → Untidy cs n → tidied c ≡ c → Untidy (cs ++ c ∷ []) n
+  other : {cs : List Command} {n : ℕ} (c : Command) → Untidy cs n → (tidied c ≡ c → ⊥) → Untidy (cs ++ c ∷ []) (n + 1)

@@ -1,0 +1,46 @@
+// Writes a file again with every identifier in the writer's padding.
+ghost use mathlib.Core.Path.{_≡_};
+ghost use mathlib.Core.List.{List};
+ghost use lib.ListN.{length};
+ghost use Rattle.std.specs.Results.{Cases};
+ghost use Rattle.trace_file.specs.Event.{command};
+ghost use Rattle.trace_file.specs.Fault.{parts};
+ghost use Rattle.trace_file.specs.File.{Command, Reads, Refuses};
+ghost use Rattle.trace_writer.specs.Tidying.{Tidies, over, Over, Untidy};
+use crate::admission::refused;
+use crate::bytes::copy;
+use crate::bytes::digits;
+use trace_file::check;
+use trace_file::event::Event;
+use trace_file::event::Operand;
+use trace_file::fault::Fault;
+use trace_file::fault::Refusal;
+use trace_file::identifier::Identifier;
+use trace_file::reader::Reader;
+
+// Writes an event's identifier over the one that stands at its place.
+fn pad(out: &mut [u8], event: Event<Identifier<'_>>)
+    requires { ⌜ Over (now out) (command event .1) ⌝ }
+    ensures { λ _. ⌜ now (out .exit) ≡ over (now (out .entry)) (command (event .entry) .1) ⌝ }
+{
+    let (_, operand) = event.command();
+    if let Operand::Identifier(identifier) = operand {
+        copy(out, identifier.place, &digits(identifier.number));
+    }
+}
+
+// Writes the file again, of equal length. Answers how many bytes that are.
+pub fn tidy(file: &[u8], out: &mut [u8]) -> Result<usize, Fault>
+    ensures { λ r. ⌜ Tidies (now (file .entry)) (now (out .entry)) r (now (out .exit)) ⌝ }
+{
+    check(file)?;
+    if out.len() < file.len() {
+        return Err(refused(Refusal::NoSpace, 0));
+    }
+    copy(out, 0, file);
+    let mut reader = Reader::new(file);
+    while let Some(timed) = reader.next()? {
+        pad(out, timed.event);
+    }
+    Ok(file.len())
+}
