@@ -9,7 +9,7 @@ use lib.ListN.{length, getD, take, drop, length-append}
 use Rattle.std.specs.Joined.{joined}
 use Rattle.std.specs.shelf.Lists.{All}
 use Rattle.std.proofs.shelf.Elements.{all-map, all-weaker}
-use Rattle.std.proofs.shelf.Lists.{append-cancel-left, joined-more, map-push, getD-append-left, getD-append-right, length-map}
+use Rattle.std.proofs.shelf.Lists.{append-cancel-left, length-push, joined-more, map-push, getD-append-left, getD-append-right, length-map}
 use Rattle.std.proofs.shelf.Tests.{cases-lt}
 use Rattle.trace_file.specs.declared.event.Operand.{Operand}
 use Rattle.trace_file.specs.declared.event.Operand.the-variants.{Nothing, Identifier as Id, Thread}
@@ -22,12 +22,12 @@ use Rattle.trace_file.specs.Identifier.{number, padded}
 use Rattle.trace_file.specs.Reading.{as-read, chars, IdentifierAt, OperandAt, Took, HasRead}
 use Rattle.trace_file.proofs.Commands.{command-with, encoded-with, with-with, same-bytes, size-with, operand-size, size-is, length-encoded}
 use Rattle.trace_file.proofs.Forms.{number-small}
-use Rattle.trace_file.proofs.Grammar.{determined}
+use Rattle.trace_file.proofs.Grammar.{determined, same-command}
 use Rattle.trace_file.proofs.Runs.{one-more as read-more}
 use Rattle.trace_file.proofs.Padding.{padded-form, number-padded}
 use Rattle.trace_writer.specs.Writing.{written}
 use Rattle.trace_writer.proofs.Writes.{length-written, take-written, written-inside, written-again}
-use Rattle.trace_writer.specs.Tidying.{tidied, tidy-file, InIdentifier, HasTidied, over, Over}
+use Rattle.trace_writer.specs.Tidying.{tidied, tidy-file, InIdentifier, HasTidied, over, FourDigits, Among, IsTidy, Untidy, no-command, kept, changed}
 
 proper : (o : Operand (List ℕ)) → Proper o → Proper (operand-with (λ cs. padded (number cs)) o)
 proper Nothing h = tt
@@ -169,7 +169,7 @@ finished file out now after cs r room copy half reads =
     tidied-whole file cs reads out after room
     (half .bytes ∙ ap (λ l. written now 0 (joined encoded (map tidied cs) ++ l)) end ∙ ap (λ l. written l 0 (tidy-file cs)) copy ∙ written-again out file (tidy-file cs) (sym (tidy-long file cs reads)))
 
-module _ (file out : List ℕ) (cs : List Command) (r s : Reader) (now : List ℕ) (half : Halfway file out cs r now) (room : length file ≤ length out) (t : Timed Identifier) (took : Took r t s) where
+module _ (r s : Reader) (t : Timed Identifier) (took : Took r t s) where
   -- the bytes of the command as it stands and as it is tidied, by its operand
   stands-as : (o : Operand Identifier) → command (t .event) .1 ≡ o → encoded (as-read t) ≡ (command (t .event) .0 ∷ little 4 (t .gap)) ++ operand-bytes (operand-with chars o)
   stands-as o e = encoded-with chars t ∙ ap (λ x. (command (t .event) .0 ∷ little 4 (t .gap)) ++ operand-bytes (operand-with chars x)) e
@@ -183,67 +183,101 @@ module _ (file out : List ℕ) (cs : List Command) (r s : Reader) (now : List �
   rest-is : r .rest .now ≡ encoded (as-read t) ++ s .rest .now
   rest-is = took .front .stands ∙ ap (λ l. encoded (as-read t) ++ l) (sym (took .rest))
 
+  -- an identifier that was read has four characters and stands where it says
+  four : (i : Identifier) → command (t .event) .1 ≡ Id i → length (chars i) ≡ 4
+  four i e = subst (λ x. Proper (x .1)) (command-with chars (t .event) ∙ ap (λ o. (command (t .event) .0, operand-with chars o)) e) (took .front .sound .operand) .0
+
+  found : (i : Identifier) → command (t .event) .1 ≡ Id i → IdentifierAt (r .at) (r .rest .now) i
+  found i e = subst (OperandAt (r .at) (r .rest .now)) e (took .front .operand)
+
+  small : (o : Operand Identifier) → command (t .event) .1 ≡ o → FourDigits o
+  small Nothing e = tt
+  small (Id i) e = omega (arith, found i e .number, number-small (chars i) (found i e .form) (four i e))
+  small (Thread n) e = tt
+
+  pub four-digits : FourDigits (command (t .event) .1)
+  four-digits = small (command (t .event) .1) refl
+
+  -- an identifier is in the writer's padding just where tidying leaves its command as it is
+  is-tidy : (o : Operand Identifier) → command (t .event) .1 ≡ o → (IsTidy o → operand-bytes (operand-with (λ i. padded (number (chars i))) o) ≡ operand-bytes (operand-with chars o)) × (operand-bytes (operand-with (λ i. padded (number (chars i))) o) ≡ operand-bytes (operand-with chars o) → IsTidy o)
+  is-tidy Nothing e = (λ h. refl, λ h. tt)
+  is-tidy (Id i) e = (λ h. ap padded (sym (found i e .number)) ∙ sym h, λ h. sym h ∙ ap padded (sym (found i e .number)))
+  is-tidy (Thread n) e = (λ h. refl, λ h. tt)
+
+  pub tidy-same : IsTidy (command (t .event) .1) → tidied (as-read t) ≡ as-read t
+  tidy-same h =
+      let o = command (t .event) .1 in
+      let bytes = becomes o refl ∙ ap (λ l. (command (t .event) .0 ∷ little 4 (t .gap)) ++ l) (is-tidy o refl .0 h) ∙ sym (stands-as o refl) in
+      same-command (tidied (as-read t)) (as-read t) [] [] (sound-tidied (as-read t) (took .front .sound)) (took .front .sound) (ap (λ l. l ++ []) bytes) .0
+
+  pub same-tidy : tidied (as-read t) ≡ as-read t → IsTidy (command (t .event) .1)
+  same-tidy e =
+      let o = command (t .event) .1 in
+      is-tidy o refl .1 (append-cancel-left (command (t .event) .0 ∷ little 4 (t .gap)) _ _ (sym (becomes o refl) ∙ ap encoded e ∙ stands-as o refl))
+
+module _ (file out : List ℕ) (cs : List Command) (r s : Reader) (now : List ℕ) (half : Halfway file out cs r now) (room : length file ≤ length out) (t : Timed Identifier) (took : Took r t s) where
+  done : List ℕ
+  done = joined encoded (map tidied cs)
+
+  -- the output bytes once the command is tidied too
+  target : List ℕ
+  target = written out 0 (joined encoded (map tidied cs) ++ (encoded (tidied (as-read t)) ++ s .rest .now))
+
   long-now : length now ≡ length out
   long-now =
       let inner = length-append (joined encoded (map tidied cs)) (r .rest .now) in
       let whole = ap length (half .read .whole) ∙ length-append (joined encoded cs) (r .rest .now) in
       ap length (half .bytes) ∙ length-written out 0 (joined encoded (map tidied cs) ++ r .rest .now) (omega (arith, inner, whole, long-run cs (half .read .sound)))
 
-  -- an identifier that was read: its number is small, its characters are four, and it stands where it says
-  module _ (i : Identifier) (e : command (t .event) .1 ≡ Id i) where
-    four : length (chars i) ≡ 4
-    four = subst (λ x. Proper (x .1)) (command-with chars (t .event) ∙ ap (λ o. (command (t .event) .0, operand-with chars o)) e) (took .front .sound .operand) .0
+  among : (o : Operand Identifier) → command (t .event) .1 ≡ o → Among now o
+  among Nothing e = tt
+  among (Id i) e =
+      let part = ap length (stands-as r s t took (Id i) e) in
+      let rest = ap length (rest-is r s t took) ∙ length-append (encoded (as-read t)) (s .rest .now) in
+      let whole = ap length (half .read .whole) ∙ length-append (joined encoded cs) (r .rest .now) in
+      omega (arith, part, rest, whole, four r s t took i e, found r s t took i e .place, half .read .at, long-now)
+  among (Thread n) e = tt
 
-    found : IdentifierAt (r .at) (r .rest .now) i
-    found = subst (OperandAt (r .at) (r .rest .now)) e (took .front .operand)
+  padded-now : (i : Identifier) → command (t .event) .1 ≡ Id i → written now (i .place) (padded (i .number)) ≡ target
+  unfolding target done
+  padded-now i e =
+      let head = command (t .event) .0 ∷ little 4 (t .gap) in
+      let new = padded (number (chars i)) in
+      let at = found r s t took i e in
+      let place : i .place ≡ length (done ++ head) = at .place ∙ ap (λ n. n + 5) (half .read .at ∙ sym (long-run cs (half .read .sound))) ∙ sym (length-append done head) in
+      let old : done ++ r .rest .now ≡ (done ++ head) ++ (chars i ++ s .rest .now) =
+          ap (λ l. done ++ l) (rest-is r s t took ∙ ap (λ l. l ++ s .rest .now) (stands-as r s t took (Id i) e) ∙ append-assoc head (chars i) (s .rest .now)) ∙ sym (append-assoc done head (chars i ++ s .rest .now)) in
+      let back : (done ++ head) ++ (new ++ s .rest .now) ≡ done ++ (encoded (tidied (as-read t)) ++ s .rest .now) =
+          append-assoc done head (new ++ s .rest .now) ∙ ap (λ l. done ++ l) (sym (append-assoc head new (s .rest .now)) ∙ ap (λ l. l ++ s .rest .now) (sym (becomes r s t took (Id i) e))) in
+      (λ j. written (half .bytes j) (i .place) (padded (at .number j)))
+      ∙ ap (λ l. written (written out 0 l) (i .place) new) old
+      ∙ written-inside out (done ++ head) (chars i) new (s .rest .now) (i .place) place (four r s t took i e)
+      ∙ ap (written out 0) back
 
-    small : i .number ≤ 9999
-    small = omega (arith, found .number, number-small (chars i) (found .form) four)
-
-    fits : i .place + 4 ≤ length now
-    fits =
-        let part = ap length (stands-as (Id i) e) in
-        let rest = ap length rest-is ∙ length-append (encoded (as-read t)) (s .rest .now) in
-        let whole = ap length (half .read .whole) ∙ length-append (joined encoded cs) (r .rest .now) in
-        omega (arith, part, rest, whole, four, found .place, half .read .at, long-now)
-
-    padded-now : written now (i .place) (padded (i .number)) ≡ written out 0 (joined encoded (map tidied cs) ++ (encoded (tidied (as-read t)) ++ s .rest .now))
-    padded-now =
-        let done = joined encoded (map tidied cs) in
-        let head = command (t .event) .0 ∷ little 4 (t .gap) in
-        let new = padded (number (chars i)) in
-        let place : i .place ≡ length (done ++ head) = found .place ∙ ap (λ n. n + 5) (half .read .at ∙ sym (long-run cs (half .read .sound))) ∙ sym (length-append done head) in
-        let old : done ++ r .rest .now ≡ (done ++ head) ++ (chars i ++ s .rest .now) =
-            ap (λ l. done ++ l) (rest-is ∙ ap (λ l. l ++ s .rest .now) (stands-as (Id i) e) ∙ append-assoc head (chars i) (s .rest .now)) ∙ sym (append-assoc done head (chars i ++ s .rest .now)) in
-        let back : (done ++ head) ++ (new ++ s .rest .now) ≡ done ++ (encoded (tidied (as-read t)) ++ s .rest .now) =
-            append-assoc done head (new ++ s .rest .now) ∙ ap (λ l. done ++ l) (sym (append-assoc head new (s .rest .now)) ∙ ap (λ l. l ++ s .rest .now) (sym (becomes (Id i) e))) in
-        (λ j. written (half .bytes j) (i .place) (padded (found .number j)))
-        ∙ ap (λ l. written (written out 0 l) (i .place) new) old
-        ∙ written-inside out (done ++ head) (chars i) new (s .rest .now) (i .place) place four
-        ∙ ap (written out 0) back
-
-  plain-now : (o : Operand Identifier) → command (t .event) .1 ≡ o → operand-bytes (operand-with chars o) ≡ operand-bytes (operand-with (λ i. padded (number (chars i))) o) → now ≡ written out 0 (joined encoded (map tidied cs) ++ (encoded (tidied (as-read t)) ++ s .rest .now))
+  plain-now : (o : Operand Identifier) → command (t .event) .1 ≡ o → operand-bytes (operand-with chars o) ≡ operand-bytes (operand-with (λ i. padded (number (chars i))) o) → now ≡ target
+  unfolding target done
   plain-now o e same =
-      let bytes = stands-as o e ∙ ap (λ l. (command (t .event) .0 ∷ little 4 (t .gap)) ++ l) same ∙ sym (becomes o e) in
-      half .bytes ∙ ap (λ l. written out 0 (joined encoded (map tidied cs) ++ l)) (rest-is ∙ ap (λ l. l ++ s .rest .now) bytes)
+      let bytes = stands-as r s t took o e ∙ ap (λ l. (command (t .event) .0 ∷ little 4 (t .gap)) ++ l) same ∙ sym (becomes r s t took o e) in
+      half .bytes ∙ ap (λ l. written out 0 (done ++ l)) (rest-is r s t took ∙ ap (λ l. l ++ s .rest .now) bytes)
 
-  over-fits : (o : Operand Identifier) → command (t .event) .1 ≡ o → Over now o
-  over-fits Nothing e = tt
-  over-fits (Id i) e = (small i e, fits i e)
-  over-fits (Thread n) e = tt
-
-  over-is : (o : Operand Identifier) → command (t .event) .1 ≡ o → over now o ≡ written out 0 (joined encoded (map tidied cs) ++ (encoded (tidied (as-read t)) ++ s .rest .now))
+  over-is : (o : Operand Identifier) → command (t .event) .1 ≡ o → over now o ≡ target
   over-is Nothing e = plain-now Nothing e refl
   over-is (Id i) e = padded-now i e
   over-is (Thread n) e = plain-now (Thread n) e refl
 
-  pub room-over : Over now (command (t .event) .1)
-  room-over = over-fits (command (t .event) .1) refl
+  pub among-now : Among now (command (t .event) .1)
+  among-now = among (command (t .event) .1) refl
 
-  pub one-more : Halfway file out (cs ++ as-read t ∷ []) s (over now (command (t .event) .1))
-  one-more =
+  pub one-more : (after : List ℕ) → after ≡ over now (command (t .event) .1) → Halfway file out (cs ++ as-read t ∷ []) s after
+  unfolding target done
+  one-more after is =
       let pushed = joined-more encoded [] (map tidied cs) (tidied (as-read t)) ∙ ap (joined encoded) (sym (map-push tidied cs (as-read t))) in
       record {
         read = read-more file cs r (half .read) t s took;
-        bytes = over-is (command (t .event) .1) refl ∙ ap (written out 0) (sym (append-assoc (joined encoded (map tidied cs)) (encoded (tidied (as-read t))) (s .rest .now)) ∙ ap (λ l. l ++ s .rest .now) pushed);
+        bytes = is ∙ over-is (command (t .event) .1) refl ∙ ap (written out 0) (sym (append-assoc (joined encoded (map tidied cs)) (encoded (tidied (as-read t))) (s .rest .now)) ∙ ap (λ l. l ++ s .rest .now) pushed);
       }
+
+pub untidy-le : {cs : List Command} {n : ℕ} → Untidy cs n → n ≤ length cs
+untidy-le no-command = omega arith
+untidy-le (kept {cs} {n} c u e) = omega (arith, untidy-le u, length-push cs c)
+untidy-le (changed {cs} {n} c u e) = omega (arith, untidy-le u, length-push cs c)

@@ -63,14 +63,26 @@ over out Nothing = out
 over out (Id i) = written out (i .place) (padded (i .number))
 over out (Thread t) = out
 
--- there is room for that
-abbrev pub Over : List ℕ → Operand Identifier → Type 0
-Over out Nothing = Unit {0}
-Over out (Id i) = (i .number ≤ 9999) × (i .place + 4 ≤ length out)
-Over out (Thread t) = Unit {0}
+-- an identifier that was read has at most four digits
+abbrev pub FourDigits : Operand Identifier → Type 0
+FourDigits Nothing = Unit {0}
+FourDigits (Id i) = i .number ≤ 9999
+FourDigits (Thread t) = Unit {0}
+
+-- it stands among these bytes
+abbrev pub Among : List ℕ → Operand Identifier → Type 0
+Among out Nothing = Unit {0}
+Among out (Id i) = i .place + 4 ≤ length out
+Among out (Thread t) = Unit {0}
+
+-- and is in the writer's padding already
+abbrev pub IsTidy : Operand Identifier → Type 0
+IsTidy Nothing = Unit {0}
+IsTidy (Id i) = i .chars .now ≡ padded (i .number)
+IsTidy (Thread t) = Unit {0}
 
 -- so many of these commands have their identifier in another padding
 pub data Untidy : List Command → ℕ → Type 0 where
-  none : Untidy [] 0
-  same : {cs : List Command} {n : ℕ} (c : Command) → Untidy cs n → tidied c ≡ c → Untidy (cs ++ c ∷ []) n
-  other : {cs : List Command} {n : ℕ} (c : Command) → Untidy cs n → (tidied c ≡ c → ⊥) → Untidy (cs ++ c ∷ []) (n + 1)
+  no-command : Untidy [] 0
+  kept : {cs : List Command} {n : ℕ} (c : Command) → Untidy cs n → tidied c ≡ c → Untidy (cs ++ c ∷ []) n
+  changed : {cs : List Command} {n : ℕ} (c : Command) → Untidy cs n → (tidied c ≡ c → ⊥) → Untidy (cs ++ c ∷ []) (n + 1)

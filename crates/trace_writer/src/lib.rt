@@ -8,3 +8,4 @@ mod writing;
 
 pub use all::write_all;
 pub use tidying::tidy;
+pub use tidying::untidy;

@@ -2,11 +2,12 @@
 ghost use mathlib.Core.Path.{_≡_};
 ghost use mathlib.Core.List.{List};
 ghost use lib.ListN.{length};
+ghost use Rattle.std.specs.Orderings.{Decides};
 ghost use Rattle.std.specs.Results.{Cases};
 ghost use Rattle.trace_file.specs.Event.{command};
 ghost use Rattle.trace_file.specs.Fault.{parts};
 ghost use Rattle.trace_file.specs.File.{Command, Reads, Refuses};
-ghost use Rattle.trace_writer.specs.Tidying.{Tidies, over, Over, Untidy};
+ghost use Rattle.trace_writer.specs.Tidying.{Tidies, over, FourDigits, Among, IsTidy, Untidy};
 use crate::admission::refused;
 use crate::bytes::copy;
 use crate::bytes::digits;
@@ -20,12 +21,25 @@ use trace_file::reader::Reader;
 
 // Writes an event's identifier over the one that stands at its place.
 fn pad(out: &mut [u8], event: Event<Identifier<'_>>)
-    requires { ⌜ Over (now out) (command event .1) ⌝ }
+    requires digits { ⌜ FourDigits (command event .1) ⌝ }
+    requires among { ⌜ Among (now out) (command event .1) ⌝ }
     ensures { λ _. ⌜ now (out .exit) ≡ over (now (out .entry)) (command (event .entry) .1) ⌝ }
 {
     let (_, operand) = event.command();
     if let Operand::Identifier(identifier) = operand {
         copy(out, identifier.place, &digits(identifier.number));
+    }
+}
+
+// Whether an event has no identifier or one in the writer's padding.
+fn is_tidy(event: Event<Identifier<'_>>) -> bool
+    requires { ⌜ FourDigits (command event .1) ⌝ }
+    ensures { λ r. ⌜ Decides r (IsTidy (command (event .entry) .1)) ⌝ }
+{
+    let (_, operand) = event.command();
+    match operand {
+        Operand::Identifier(identifier) => identifier.chars == digits(identifier.number),
+        _ => true,
     }
 }
 
@@ -43,4 +57,18 @@ pub fn tidy(file: &[u8], out: &mut [u8]) -> Result<usize, Fault>
         pad(out, timed.event);
     }
     Ok(file.len())
+}
+
+// How many identifiers of a file `tidy` would change.
+pub fn untidy(file: &[u8]) -> Result<u32, Fault>
+    ensures { λ r. ⌜ Cases r (λ n. (cs : List Command) × Reads (now (file .entry)) cs × Untidy cs n) (λ f. Refuses (now (file .entry)) (parts f)) ⌝ }
+{
+    let mut reader = Reader::new(file);
+    let mut count = 0;
+    while let Some(timed) = reader.next()? {
+        if !is_tidy(timed.event) {
+            count += 1;
+        }
+    }
+    Ok(count)
 }

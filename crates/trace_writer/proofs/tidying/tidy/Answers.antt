@@ -4,7 +4,7 @@ use native.Mathlib.Omega.{arith}
 use lib.ListN.{length}
 use Rattle.std.specs.declared.result.Result.the-variants.{Ok}
 use Rattle.trace_file.specs.Reading.{Next, Says}
-use Rattle.trace_writer.proofs.Tidied.{Halfway, copied, room-over, one-more, finished}
+use Rattle.trace_writer.proofs.Tidied.{copied, four-digits, among-now, one-more, finished}
 use Rattle.trace_writer.proofs.Writes.{length-written}
 use Rattle.trace_writer.proofs.tidying.tidy.Needs as need
 
@@ -15,13 +15,13 @@ pub pad-requires : need.pad-requires
 pad-requires c κs =
     let took = subst (λ o. Next (c .loop-reader .reader) (Ok o) (c .next .last .self)) (c .in-Some .is) (c .in-Continue-timed .ensures tt .step) in
     let room : length (c .args .file .now) ≤ length (c .copy .last .out) = omega arith in
-    room-over _ _ _ _ _ _ (c .loop-reader .inv .1) room _ took
+    record { digits = four-digits _ _ _ took; among = among-now _ _ _ _ _ _ (c .loop-reader .inv .1) room _ took }
 
 pub loop-reader-again : need.loop-reader-again
 loop-reader-again c =
     let took = subst (λ o. Next (c .loop-reader .reader) (Ok o) (c .next .last .self)) (c .in-Some .is) (c .in-Continue-timed .ensures tt .step) in
     let room : length (c .args .file .now) ≤ length (c .copy .last .out) = omega arith in
-    (_, subst (Halfway _ _ _ _) (sym (c .pad .ensures)) (one-more _ _ _ _ _ _ (c .loop-reader .inv .1) room _ took))
+    (_, one-more _ _ _ _ _ _ (c .loop-reader .inv .1) room _ took _ (c .pad .ensures))
 
 pub returns : need.returns
 returns c =
