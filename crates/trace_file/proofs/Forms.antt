@@ -25,7 +25,7 @@ module _ (cs : List ℕ) (from to end : ℕ) (blanks : Run cs 0 Blank from) (dig
   same-from f =
       ⊎-elim (λ e. e)
       (⊎-elim (λ lt. absurd (apart _ (blanks .all (f .from) (omega arith) lt) (f .digits (f .from) (omega arith) (f .some))))
-       (λ lt. absurd (blanks .stops (omega (arith, f .within, f .some)) (f .before from lt))))
+      (λ lt. absurd (blanks .stops (omega (arith, f .within, f .some)) (f .before from lt))))
       (cases-order (f .from) from)
 
   same-to : (f : Form cs) → f .to ≡ to
@@ -33,7 +33,7 @@ module _ (cs : List ℕ) (from to end : ℕ) (blanks : Run cs 0 Blank from) (dig
       let e = same-from f in
       ⊎-elim (λ e. e)
       (⊎-elim (λ lt. absurd (apart _ (f .after (f .to) (omega arith) (omega (arith, digits .within))) (digits .all (f .to) (omega (arith, f .some)) lt)))
-       (λ lt. absurd (digits .stops (omega (arith, f .within)) (f .digits to (omega (arith, digits .onward)) lt))))
+      (λ lt. absurd (digits .stops (omega (arith, f .within)) (f .digits to (omega (arith, digits .onward)) lt))))
       (cases-order (f .to) to)
 
   same-end : (f : Form cs) → end ≡ length cs
@@ -41,7 +41,7 @@ module _ (cs : List ℕ) (from to end : ℕ) (blanks : Run cs 0 Blank from) (dig
       let e = same-to f in
       ⊎-elim (λ e. e)
       (⊎-elim (λ lt. absurd (rest .stops lt (f .after end (omega (arith, rest .onward)) lt)))
-       (λ lt. omega (arith, rest .within)))
+      (λ lt. omega (arith, rest .within)))
       (cases-order end (length cs))
 
   -- characters with no blank left over are an identifier
@@ -102,8 +102,8 @@ below-room [] n h = omega arith
 below-room (c ∷ cs) n h =
     let m : ℕ = cond (eqb c 32) n (n * 10 + (c - 48)) in
     let step : m + 1 ≤ (n + 1) * 10 = ⊎-elim (λ e. omega (arith, cond-true (eqb c 32) n (n * 10 + (c - 48)) (eq-eqb c 32 e)))
-        (λ ne. let small : c ≤ 57 = ⊎-elim (λ l. absurd (h .0 (other c ne l))) (λ l. l) (cases-lt 57 c) in omega (arith, cond-false (eqb c 32) n (n * 10 + (c - 48)) (ne-eqb c 32 ne)))
-        (cases-eq c 32) in
+    (λ ne. let small : c ≤ 57 = ⊎-elim (λ l. absurd (h .0 (other c ne l))) (λ l. l) (cases-lt 57 c) in omega (arith, cond-false (eqb c 32) n (n * 10 + (c - 48)) (ne-eqb c 32 ne)))
+    (cases-eq c 32) in
     let more : (m + 1) * 10 ^ length cs ≤ (n + 1) * 10 * 10 ^ length cs = mul-le-mul-right (10 ^ length cs) step in
     omega (arith, below-room cs m (h .1), more, mul-assoc (n + 1) 10 (10 ^ length cs), ap (λ x. (n + 1) * x) (pow-succ' 10 (length cs)))
 
@@ -114,6 +114,6 @@ plain k either e = let z : _≡_ {A = ℕ} 0 1 = ⊎-elim (λ p. cc) (λ p. cc) 
 pub number-small : (cs : List ℕ) → Form cs → length cs ≡ 4 → number cs ≤ 9999
 number-small cs f long =
     let each : (i : ℕ) → i < length cs → kind (getD cs i 0) ≡ Other → ⊥ =
-        λ i lt. plain _ (⊎-elim (λ l. inl (f .before i l)) (λ ge. ⊎-elim (λ l. inr (f .digits i ge l)) (λ past. inl (f .after i past lt)) (cases-lt i (f .to))) (cases-lt i (f .from))) in
+    λ i lt. plain _ (⊎-elim (λ l. inl (f .before i l)) (λ ge. ⊎-elim (λ l. inr (f .digits i ge l)) (λ past. inl (f .after i past lt)) (cases-lt i (f .to))) (cases-lt i (f .from))) in
     let bound = below-room cs 0 (all-from-getD (λ c. kind c ≡ Other → ⊥) cs 0 each) in
     omega (arith, rw long at bound)

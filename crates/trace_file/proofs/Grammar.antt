@@ -109,29 +109,52 @@ sound-passes n at d t h few =
     let b = byte-range (d .event) in
     let o = operand-bytes (command (d .event) .1) in
     let long : length (encoded d) ≡ size (command (d .event) .0) = length-encoded d h ∙ sym (size-is (d .event)) in
-    let whole = length-append (encoded d) t in
-    (
+    let whole = length-append (encoded d) t in (
       λ p. omega arith,
-      (λ p. omega arith,
-       (λ p. omega arith,
-        (λ p. omega arith,
-         (λ p. let g : d .gap ≡ 0 = sym (gap-said d h) ∙ p .1 in omega (arith, h .ticks),
-          (λ p. let i = identified (d .event) (h .operand) (p .0) in p .1 (subst Form (sym (take-at o t 4 (i .0))) (i .1)),
-           (λ p. omega arith,
-            (λ p. omega arith, tt)))))))
+      (
+        λ p. omega arith,
+        (
+          λ p. omega arith,
+          (
+            λ p. omega arith,
+            (
+              λ p. let g : d .gap ≡ 0 = sym (gap-said d h) ∙ p .1 in omega (arith, h .ticks),
+              (
+                λ p. let i = identified (d .event) (h .operand) (p .0) in p .1 (subst Form (sym (take-at o t 4 (i .0))) (i .1)),
+                (
+                  λ p. omega arith,
+                  (λ p. omega arith, tt),
+                ),
+              ),
+            ),
+          ),
+        ),
+      ),
     )
 
 -- nor at the end command with the right number
 end-passes : (n at : ℕ) → n ≤ most-events → None-of (refusals n at (end-command n))
 end-passes n at few = (
   λ p. omega arith,
-  (λ p. omega arith,
-   (λ p. omega arith,
-    (λ p. omega arith,
-     (λ p. omega arith,
-      (λ p. omega arith,
-       (λ p. p .1 (from-little-fits 4 n (omega arith)),
-        (λ p. omega arith, tt)))))))
+  (
+    λ p. omega arith,
+    (
+      λ p. omega arith,
+      (
+        λ p. omega arith,
+        (
+          λ p. omega arith,
+          (
+            λ p. omega arith,
+            (
+              λ p. p .1 (from-little-fits 4 n (omega arith)),
+              (λ p. omega arith, tt),
+            ),
+          ),
+        ),
+      ),
+    ),
+  ),
 )
 
 -- what is left after some commands of a file, and no command
@@ -171,7 +194,7 @@ apart bs cs p x y =
     let same = same-run cs (y .commands) 0 _ (y .rest) (x .sound) (y .sound) (omega (arith, x .few)) (omega (arith, y .few)) (rw zero-add (end-stuck (length cs))) (rw zero-add (refused-stuck (length (y .commands)) (length (joined encoded (y .commands))) (y .rest) p (y .first))) (sym (x .whole) ∙ y .whole) in
     none-first (refusals (length cs) (length (joined encoded cs)) (end-command (length cs))) p (end-passes (length cs) (length (joined encoded cs)) (x .few))
     (subst (λ ds. First (refusals (length ds) (length (joined encoded ds)) (end-command (length cs))) p) (sym (same .0))
-     (subst (λ r. First (refusals (length (y .commands)) (length (joined encoded (y .commands))) r) p) (sym (same .1)) (y .first)))
+    (subst (λ r. First (refusals (length (y .commands)) (length (joined encoded (y .commands))) r) p) (sym (same .1)) (y .first)))
 
 -- A file is refused in one way only.
 pub one-refusal : (bs : List ℕ) (p q : Parts) → Refuses bs p → Refuses bs q → p ≡ q
@@ -179,5 +202,5 @@ one-refusal bs p q x y =
     let same = same-run (x .commands) (y .commands) 0 (x .rest) (y .rest) (x .sound) (y .sound) (omega (arith, x .few)) (omega (arith, y .few)) (rw zero-add (refused-stuck (length (x .commands)) (length (joined encoded (x .commands))) (x .rest) p (x .first))) (rw zero-add (refused-stuck (length (y .commands)) (length (joined encoded (y .commands))) (y .rest) q (y .first))) (sym (x .whole) ∙ y .whole) in
     first-unique (refusals (length (y .commands)) (length (joined encoded (y .commands))) (y .rest)) p q
     (subst (λ ds. First (refusals (length ds) (length (joined encoded ds)) (y .rest)) p) (same .0)
-     (subst (λ r. First (refusals (length (x .commands)) (length (joined encoded (x .commands))) r) p) (same .1) (x .first)))
+    (subst (λ r. First (refusals (length (x .commands)) (length (joined encoded (x .commands))) r) p) (same .1) (x .first)))
     (y .first)

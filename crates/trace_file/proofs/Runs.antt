@@ -32,9 +32,9 @@ module _ (file : List ℕ) (cs : List Command) (r : Reader) (read : HasRead file
       let more = joined-more encoded [] cs (as-read t) in
       record {
         whole = read .whole
-          ∙ ap (λ l. joined encoded cs ++ l) (took .front .stands ∙ ap (λ l. encoded (as-read t) ++ l) (sym (took .rest)))
-          ∙ sym (append-assoc (joined encoded cs) (encoded (as-read t)) (s .rest .now))
-          ∙ ap (λ l. l ++ s .rest .now) more;
+            ∙ ap (λ l. joined encoded cs ++ l) (took .front .stands ∙ ap (λ l. encoded (as-read t) ++ l) (sym (took .rest)))
+            ∙ sym (append-assoc (joined encoded cs) (encoded (as-read t)) (s .rest .now))
+            ∙ ap (λ l. l ++ s .rest .now) more;
         sound = all-push Sound cs (as-read t) (read .sound) (took .front .sound);
         few = simp length-push (omega (arith, took .few, read .events));
         at = took .at ∙ ap (λ n. n + length (encoded (as-read t))) (read .at) ∙ sym (length-append (joined encoded cs) (encoded (as-read t))) ∙ ap length more;

@@ -1,5 +1,7 @@
 -- The command table. Assumes nothing.
+use mathlib.Core.List.{List}
 use Prim.Native.Nat.{ℕ}
+use lib.Chars.{codes}
 use Rattle.trace_file.specs.declared.event.Event.{Event}
 use Rattle.trace_file.specs.declared.event.Event.the-variants.{NmiEntry, NmiExit, IrqEntry, IrqExit, LocalIrqDisable, LocalIrqEnable, PreemptDisable, PreemptEnable, PreemptDisableSched, ScheduleEntry, SchedSwitch, ScheduleExit, PreemptEnableSched, NeedResched, SchedWaking}
 use Rattle.trace_file.specs.declared.event.Operand.{Operand}
@@ -22,6 +24,23 @@ command ScheduleExit = (12, Nothing)
 command PreemptEnableSched = (13, Nothing)
 command NeedResched = (14, Nothing)
 command (SchedWaking t) = (15, Thread t)
+
+abbrev pub name : {I : Type 0} → Event I → List ℕ
+name NmiEntry = codes "nmi_entry"
+name NmiExit = codes "nmi_exit"
+name (IrqEntry i) = codes "irq_entry"
+name IrqExit = codes "irq_exit"
+name LocalIrqDisable = codes "local_irq_disable"
+name LocalIrqEnable = codes "local_irq_enable"
+name PreemptDisable = codes "preempt_disable"
+name PreemptEnable = codes "preempt_enable"
+name PreemptDisableSched = codes "preempt_disable_sched"
+name ScheduleEntry = codes "schedule_entry"
+name (SchedSwitch t) = codes "sched_switch"
+name ScheduleExit = codes "schedule_exit"
+name PreemptEnableSched = codes "preempt_enable_sched"
+name NeedResched = codes "need_resched"
+name (SchedWaking t) = codes "sched_waking"
 
 -- an operand and an event with the identifier turned into something else
 abbrev pub operand-with : {I J : Type 0} → (I → J) → Operand I → Operand J

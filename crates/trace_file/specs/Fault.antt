@@ -1,8 +1,10 @@
 -- The numbers that faults carry. Assumes nothing.
 use mathlib.Core.Path.{_≡_}
 use mathlib.Core.Logic.{_⊎_}
-use mathlib.Core.List.{List, [], _∷_}
+use mathlib.Core.List.{List, [], _∷_, _++_}
 use Prim.Native.Nat.{ℕ}
+use lib.Chars.{codes}
+use Rattle.std.specs.Written.{decimal}
 use Rattle.trace_file.specs.declared.fault.Fault.{Fault}
 use Rattle.trace_file.specs.declared.fault.Parts.{Parts}
 use Rattle.trace_file.specs.declared.fault.Layer.{Layer}
@@ -57,6 +59,24 @@ refusal-number NoBound = 14
 refusal-number NoSpace = 15
 refusal-number Oversize = 16
 
+abbrev pub refusal-word : Refusal → List ℕ
+refusal-word Truncated = codes "truncated"
+refusal-word UnknownCommand = codes "unknown"
+refusal-word StuckClock = codes "stuck clock"
+refusal-word BadIdentifier = codes "identifier"
+refusal-word Miscount = codes "miscount"
+refusal-word Trailing = codes "trailing"
+refusal-word (OutOfTurn g) = codes "out of turn"
+refusal-word Overlong = codes "overlong"
+refusal-word LogFull = codes "log full"
+refusal-word TooMany = codes "too many"
+refusal-word NoSuchModel = codes "model"
+refusal-word BadHorizon = codes "horizon"
+refusal-word NoPass = codes "no pass"
+refusal-word NoBound = codes "no bound"
+refusal-word NoSpace = codes "no space"
+refusal-word Oversize = codes "oversize"
+
 abbrev pub refusal-ground : Refusal → ℕ
 refusal-ground Truncated = 0
 refusal-ground UnknownCommand = 0
@@ -82,6 +102,11 @@ parts f = record {
   ground = refusal-ground (f .refusal);
   place = f .place;
 }
+
+-- how a fault is written: a word and the four numbers, with commas
+abbrev pub line-of : Parts → List ℕ
+line-of p =
+    codes "refused," ++ (decimal (p .layer) ++ (codes "," ++ (decimal (p .number) ++ (codes "," ++ (decimal (p .ground) ++ (codes "," ++ decimal (p .place)))))))
 
 -- a fault that is given where a condition holds
 pub record Rule : Type 1 where

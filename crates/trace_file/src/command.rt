@@ -92,7 +92,11 @@ fn end_at(bytes: &[u8], at: usize, events: u32) -> Result<(), Fault>
 
 // What stands at the front, at a place of a file and after so many events: a command and how many bytes it has,
 // or none at a sound end command.
-pub(crate) fn command_at<'a>(bytes: &'a [u8], at: usize, events: u32) -> Result<Option<(Timed<Identifier<'a>>, usize)>, Fault>
+pub(crate) fn command_at<'a>(
+    bytes: &'a [u8],
+    at: usize,
+    events: u32,
+) -> Result<Option<(Timed<Identifier<'a>>, usize)>, Fault>
     requires { ⌜ at + length (now bytes) < 2 ^ 64 ⌝ }
     ensures { λ r. ⌜ Found events at (now (bytes .entry)) r ⌝ }
 {

@@ -1,6 +1,6 @@
 // The events of a trace: the command table, which gives each its byte, its name and its operand.
 ghost use mathlib.Core.Path.{_≡_};
-ghost use Rattle.trace_file.specs.Event.{command};
+ghost use Rattle.trace_file.specs.Event.{command, name};
 
 // An event whose interrupt identifier is an `I`.
 #[derive(Clone, Copy, PartialEq, Debug)]
@@ -51,6 +51,28 @@ impl<I: Copy> Event<I> {
             Event::PreemptEnableSched => (0x0d, Operand::Nothing),
             Event::NeedResched => (0x0e, Operand::Nothing),
             Event::SchedWaking(thread) => (0x0f, Operand::Thread(thread)),
+        }
+    }
+
+    pub fn name(self) -> &'static str
+        ensures { λ r. ⌜ now r ≡ name self ⌝ }
+    {
+        match self {
+            Event::NmiEntry => "nmi_entry",
+            Event::NmiExit => "nmi_exit",
+            Event::IrqEntry(_) => "irq_entry",
+            Event::IrqExit => "irq_exit",
+            Event::LocalIrqDisable => "local_irq_disable",
+            Event::LocalIrqEnable => "local_irq_enable",
+            Event::PreemptDisable => "preempt_disable",
+            Event::PreemptEnable => "preempt_enable",
+            Event::PreemptDisableSched => "preempt_disable_sched",
+            Event::ScheduleEntry => "schedule_entry",
+            Event::SchedSwitch(_) => "sched_switch",
+            Event::ScheduleExit => "schedule_exit",
+            Event::PreemptEnableSched => "preempt_enable_sched",
+            Event::NeedResched => "need_resched",
+            Event::SchedWaking(_) => "sched_waking",
         }
     }
 }

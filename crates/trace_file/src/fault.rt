@@ -1,7 +1,9 @@
 // What a refusal carries: the layer that met it, which refusal it is and on what ground, and its place.
 ghost use mathlib.Core.Path.{_≡_};
+ghost use Rattle.std.specs.declared.option.Option.the-variants.{Some};
 ghost use Rattle.trace_file.specs.declared.fault.Layer.the-variants.{File};
-ghost use Rattle.trace_file.specs.Fault.{layer-number, ground-number, refusal-number, refusal-ground, parts};
+ghost use Rattle.trace_file.specs.Fault.{layer-number, ground-number, refusal-number, refusal-word, refusal-ground, parts, line-of};
+use std::fmt;
 
 // The part of the product that refuses.
 #[derive(Clone, Copy, PartialEq, Debug)]
@@ -96,6 +98,29 @@ impl Refusal {
         }
     }
 
+    pub fn word(self) -> &'static str
+        ensures { λ r. ⌜ now r ≡ refusal-word self ⌝ }
+    {
+        match self {
+            Refusal::Truncated => "truncated",
+            Refusal::UnknownCommand => "unknown",
+            Refusal::StuckClock => "stuck clock",
+            Refusal::BadIdentifier => "identifier",
+            Refusal::Miscount => "miscount",
+            Refusal::Trailing => "trailing",
+            Refusal::OutOfTurn(_) => "out of turn",
+            Refusal::Overlong => "overlong",
+            Refusal::LogFull => "log full",
+            Refusal::TooMany => "too many",
+            Refusal::NoSuchModel => "model",
+            Refusal::BadHorizon => "horizon",
+            Refusal::NoPass => "no pass",
+            Refusal::NoBound => "no bound",
+            Refusal::NoSpace => "no space",
+            Refusal::Oversize => "oversize",
+        }
+    }
+
     fn ground(self) -> u8
         ensures { λ r. ⌜ r ≡ refusal-ground self ⌝ }
     {
@@ -144,5 +169,19 @@ impl Fault {
             ground: self.refusal.ground(),
             place: self.place,
         }
+    }
+}
+
+pub impl fmt::Display for Fault as FaultDisplay {
+    ghost shown = { λ f. Some (line-of (parts f)) };
+
+    fn fmt<W: fmt::Write>(&self, f: &mut fmt::Formatter<W>) -> fmt::Result {
+        let Parts {
+            layer,
+            number,
+            ground,
+            place,
+        } = self.parts();
+        write!(f, "refused,{layer},{number},{ground},{place}")
     }
 }

@@ -10,7 +10,6 @@ ghost use Rattle.trace_file.specs.declared.identifier.Kind.the-variants.{Other
 ghost use Rattle.trace_file.specs.Fault.{parts};
 ghost use Rattle.trace_file.specs.File.{in-file};
 ghost use Rattle.trace_file.specs.Reading.{IdentifierAt};
-
 use crate::fault::Fault;
 use crate::fault::Refusal;
 

@@ -11,6 +11,10 @@ pub struct Reader<'a> {
 
 impl Drop for Reader<'_> {
     fn drop(self) {
-        let Reader { rest: _, at: _, events: _ } = self;
+        let Reader {
+            rest: _,
+            at: _,
+            events: _,
+        } = self;
     }
 }

@@ -88,13 +88,13 @@ alone-run (c ∷ cs) t k h apart =
     let old = append-assoc (encoded c) (joined encoded cs) t in
     ⊎-elim
     (λ lt. ap (λ l. getD l k 0) new
-      ∙ getD-append-left (encoded (tidied c)) _ 0 k (omega arith)
-      ∙ alone-one c k (h .0) lt (λ e ge. apart (record { before = []; at = c; after = cs; whole = refl; entry = e; from = ge; to = omega (arith, size ∙ sym (size-is (c .event)) ∙ ap size-of e) }))
-      ∙ sym (ap (λ l. getD l k 0) old ∙ getD-append-left (encoded c) _ 0 k lt))
+    ∙ getD-append-left (encoded (tidied c)) _ 0 k (omega arith)
+    ∙ alone-one c k (h .0) lt (λ e ge. apart (record { before = []; at = c; after = cs; whole = refl; entry = e; from = ge; to = omega (arith, size ∙ sym (size-is (c .event)) ∙ ap size-of e) }))
+    ∙ sym (ap (λ l. getD l k 0) old ∙ getD-append-left (encoded c) _ 0 k lt))
     (λ ge. ap (λ l. getD l k 0) new
-      ∙ getD-append-right (encoded (tidied c)) _ (length (encoded c)) k 0 long ge
-      ∙ alone-run cs t (k - length (encoded c)) (h .1) (λ i. apart (further c cs k ge i))
-      ∙ sym (ap (λ l. getD l k 0) old ∙ getD-append-right (encoded c) _ (length (encoded c)) k 0 refl ge))
+    ∙ getD-append-right (encoded (tidied c)) _ (length (encoded c)) k 0 long ge
+    ∙ alone-run cs t (k - length (encoded c)) (h .1) (λ i. apart (further c cs k ge i))
+    ∙ sym (ap (λ l. getD l k 0) old ∙ getD-append-right (encoded c) _ (length (encoded c)) k 0 refl ge))
     (cases-lt k (length (encoded c)))
 
 pub long-run : (cs : List Command) → All Sound cs → length (joined encoded (map tidied cs)) ≡ length (joined encoded cs)
@@ -246,9 +246,9 @@ module _ (file out : List ℕ) (cs : List Command) (r s : Reader) (now : List �
       let at = found r s t took i e in
       let place : i .place ≡ length (done ++ head) = at .place ∙ ap (λ n. n + 5) (half .read .at ∙ sym (long-run cs (half .read .sound))) ∙ sym (length-append done head) in
       let old : done ++ r .rest .now ≡ (done ++ head) ++ (chars i ++ s .rest .now) =
-          ap (λ l. done ++ l) (rest-is r s t took ∙ ap (λ l. l ++ s .rest .now) (stands-as r s t took (Id i) e) ∙ append-assoc head (chars i) (s .rest .now)) ∙ sym (append-assoc done head (chars i ++ s .rest .now)) in
+      ap (λ l. done ++ l) (rest-is r s t took ∙ ap (λ l. l ++ s .rest .now) (stands-as r s t took (Id i) e) ∙ append-assoc head (chars i) (s .rest .now)) ∙ sym (append-assoc done head (chars i ++ s .rest .now)) in
       let back : (done ++ head) ++ (new ++ s .rest .now) ≡ done ++ (encoded (tidied (as-read t)) ++ s .rest .now) =
-          append-assoc done head (new ++ s .rest .now) ∙ ap (λ l. done ++ l) (sym (append-assoc head new (s .rest .now)) ∙ ap (λ l. l ++ s .rest .now) (sym (becomes r s t took (Id i) e))) in
+      append-assoc done head (new ++ s .rest .now) ∙ ap (λ l. done ++ l) (sym (append-assoc head new (s .rest .now)) ∙ ap (λ l. l ++ s .rest .now) (sym (becomes r s t took (Id i) e))) in
       (λ j. written (half .bytes j) (i .place) (padded (at .number j)))
       ∙ ap (λ l. written (written out 0 l) (i .place) new) old
       ∙ written-inside out (done ++ head) (chars i) new (s .rest .now) (i .place) place (four r s t took i e)

@@ -46,7 +46,13 @@ fn size_with(operand: Operand<u32>) -> Option<usize>
 }
 
 // How many bytes an event takes, if it can be put after so many events and bytes where there are `room` bytes.
-pub(crate) fn admit(events: u32, at: usize, room: usize, gap: u32, event: Event<u32>) -> Result<usize, Fault>
+pub(crate) fn admit(
+    events: u32,
+    at: usize,
+    room: usize,
+    gap: u32,
+    event: Event<u32>,
+) -> Result<usize, Fault>
     ensures { λ r. ⌜ Cases r (Admitted events at room (record { gap = gap; event = event })) (λ f. First (put-refusals events at room (record { gap = gap; event = event })) (parts f)) ⌝ }
 {
     if events >= MOST_EVENTS {

@@ -37,9 +37,10 @@ loop-timed-again c =
     let i = c .loop-timed .timed-index in
     let more = bytes-more es i _ (c .loop-timed-test .taken) in
     let inv = c .loop-timed .inv in
-    let told = c .write-at .ensures in
-    (written-on _ _ _ _ _ _ (inv .0) (inv .1) (told .bytes) ∙ ap (written (c .args .out .now) 0) (sym more),
-     omega (arith, inv .1, told .size, ap length more, length-append (bytes-of (take i es)) (encoded (command-for (getD es i absent)))))
+    let told = c .write-at .ensures in (
+      written-on _ _ _ _ _ _ (inv .0) (inv .1) (told .bytes) ∙ ap (written (c .args .out .now) 0) (sym more),
+      omega (arith, inv .1, told .size, ap length more, length-append (bytes-of (take i es)) (encoded (command-for (getD es i absent)))),
+    )
 
 pub returns : need.returns
 returns c =
