@@ -13,7 +13,7 @@ use Rattle.trace_file.specs.declared.event.Timed.{Timed}
 use Rattle.trace_file.specs.declared.fault.Parts.{Parts}
 use Rattle.trace_file.specs.Event.{command, timed-with}
 use Rattle.trace_file.specs.Fault.{Rule, First}
-use Rattle.trace_file.specs.Identifier.{Form, number}
+use Rattle.trace_file.specs.Identifier.{Form, number, width}
 
 -- an event command as it stands in a file, with the characters of its identifier
 abbrev pub Command : Type 0
@@ -46,7 +46,7 @@ end-command n = 0 ∷ little 4 n
 
 abbrev pub Proper : Operand (List ℕ) → Type 0
 Proper Nothing = Unit {0}
-Proper (Identifier cs) = (length cs ≡ 4) × Form cs
+Proper (Identifier cs) = (length cs ≡ width) × Form cs
 Proper (Thread t) = t < 2 ^ 16
 
 -- a command that a file may hold
@@ -90,7 +90,7 @@ refusals n at bs =
     ∷ record { when = (0 < getD bs 0 0) × (most-events ≤ n); gives = in-file 10 at }
     ∷ record { when = length bs < size (getD bs 0 0); gives = in-file 1 at }
     ∷ record { when = (0 < getD bs 0 0) × (word bs ≡ 0); gives = in-file 3 at }
-    ∷ record { when = (getD bs 0 0 ≡ 3) × (Form (take 4 (drop 5 bs)) → ⊥); gives = in-file 4 at }
+    ∷ record { when = (getD bs 0 0 ≡ 3) × (Form (take width (drop 5 bs)) → ⊥); gives = in-file 4 at }
     ∷ record { when = (getD bs 0 0 ≡ 0) × (word bs ≡ n → ⊥); gives = in-file 5 at }
     ∷ record { when = (getD bs 0 0 ≡ 0) × (5 < length bs); gives = in-file 6 (at + 5) }
     ∷ []

@@ -9,6 +9,13 @@ use lib.ListN.{length, getD}
 use Rattle.trace_file.specs.declared.identifier.Kind.{Kind}
 use Rattle.trace_file.specs.declared.identifier.Kind.the-variants.{Blank, Digit, Other}
 
+-- how many characters an identifier has, and the greatest number that it can say
+abbrev pub width : ℕ
+width = 4
+
+abbrev pub greatest : ℕ
+greatest = 9999
+
 abbrev pub kind : ℕ → Kind
 kind c = cond (eqb c 32) Blank (cond (leb 48 c && leb c 57) Digit Other)
 

@@ -19,7 +19,7 @@ use Rattle.trace_file.specs.declared.reader.Reader.{Reader}
 use Rattle.trace_file.specs.Event.{command, timed-with}
 use Rattle.trace_file.specs.Fault.{parts, First}
 use Rattle.trace_file.specs.File.{little, from-little, Command, Sound, Reads, Refuses, encoded, end-command, refusals, most-events}
-use Rattle.trace_file.specs.Identifier.{Form, number as number-of}
+use Rattle.trace_file.specs.Identifier.{Form, number as number-of, width}
 
 -- a number stands in so many bytes at the front
 pub record Stands (k n : ℕ) (bs : List ℕ) : Type 0 where
@@ -32,7 +32,7 @@ chars i = i .chars .now
 
 -- the identifier of the command that these bytes begin with, at a place of a file: its characters, their place, and their number
 pub record IdentifierAt (at : ℕ) (bs : List ℕ) (i : Identifier) : Type 0 where
-  pub part : chars i ≡ take 4 (drop 5 bs)
+  pub part : chars i ≡ take width (drop 5 bs)
   pub form : Form (chars i)
   pub place : i .place ≡ at + 5
   pub number : i .number ≡ number-of (chars i)

@@ -6,7 +6,7 @@ ghost use Rattle.std.specs.Options.{Cases as BySome};
 ghost use Rattle.std.specs.Results.{Cases};
 ghost use Rattle.trace_file.specs.Fault.{parts, First};
 ghost use Rattle.trace_file.specs.File.{size, in-file, end-command, refusals};
-ghost use Rattle.trace_file.specs.Identifier.{Form};
+ghost use Rattle.trace_file.specs.Identifier.{Form, width};
 ghost use Rattle.trace_file.specs.Reading.{Stands, EventAt, Found};
 use crate::event::Event;
 use crate::event::Timed;
@@ -49,7 +49,7 @@ fn event_at<'a>(bytes: &'a [u8], at: usize) -> Result<Event<Identifier<'a>>, Fau
     requires known { ⌜ (0 < getD (now bytes) 0 0) × (getD (now bytes) 0 0 ≤ 15) ⌝ }
     requires there { ⌜ size (getD (now bytes) 0 0) ≤ length (now bytes) ⌝ }
     requires within { ⌜ at + length (now bytes) < 2 ^ 64 ⌝ }
-    ensures { λ r. ⌜ Cases r (EventAt at (now (bytes .entry))) (λ f. (getD (now (bytes .entry)) 0 0 ≡ 3) × (Form (take 4 (drop 5 (now (bytes .entry)))) → ⊥) × (parts f ≡ in-file 4 at)) ⌝ }
+    ensures { λ r. ⌜ Cases r (EventAt at (now (bytes .entry))) (λ f. (getD (now (bytes .entry)) 0 0 ≡ 3) × (Form (take width (drop 5 (now (bytes .entry)))) → ⊥) × (parts f ≡ in-file 4 at)) ⌝ }
 {
     let event = match bytes[0] {
         0x01 => Event::NmiEntry,

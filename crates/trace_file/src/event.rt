@@ -23,7 +23,7 @@ pub enum Event<I> {
 }
 
 // What follows the gap of an event command.
-#[derive(Clone, Copy, PartialEq, Debug)]
+#[derive(Clone, Copy)]
 pub enum Operand<I> {
     Nothing,
     Identifier(I),
@@ -78,7 +78,7 @@ impl<I: Copy> Event<I> {
 }
 
 // An event with the ticks since the event before it.
-#[derive(Clone, Copy, PartialEq, Debug)]
+#[derive(Clone, Copy)]
 pub struct Timed<I> {
     pub gap: u32,
     pub event: Event<I>,

@@ -6,7 +6,7 @@ ghost use Rattle.trace_file.specs.Fault.{layer-number, ground-number, refusal-
 use std::fmt;
 
 // The part of the product that refuses.
-#[derive(Clone, Copy, PartialEq, Debug)]
+#[derive(Clone, Copy)]
 pub enum Layer {
     File = 1,
     Rules = 2,
@@ -24,7 +24,7 @@ impl Layer {
 }
 
 // The law of the kernel that an event out of turn would break.
-#[derive(Clone, Copy, PartialEq, Debug)]
+#[derive(Clone, Copy)]
 pub enum Ground {
     NmiInTurn = 1,
     ThreadIrqsInTurn = 2,
@@ -54,7 +54,7 @@ impl Ground {
     }
 }
 
-#[derive(Clone, Copy, PartialEq, Debug)]
+#[derive(Clone, Copy)]
 pub enum Refusal {
     Truncated,
     UnknownCommand,
@@ -132,7 +132,7 @@ impl Refusal {
 }
 
 // A refusal, with the layer that met it and its place.
-#[derive(Clone, Copy, PartialEq, Debug)]
+#[derive(Clone, Copy)]
 pub struct Fault {
     pub layer: Layer,
     pub refusal: Refusal,
@@ -183,5 +183,11 @@ pub impl fmt::Display for Fault as FaultDisplay {
             place,
         } = self.parts();
         write!(f, "refused,{layer},{number},{ground},{place}")
+    }
+}
+
+pub impl fmt::Debug for Fault as FaultDebug {
+    fn fmt<W: fmt::Write>(&self, f: &mut fmt::Formatter<W>) -> fmt::Result {
+        self.parts().fmt(f)
     }
 }

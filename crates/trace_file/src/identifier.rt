@@ -5,7 +5,7 @@ ghost use Prim.Native.Nat.{ℕ, _+_, _^_, _<_, _≤_};
 ghost use lib.ListN.{length, getD, take, drop};
 ghost use Rattle.std.specs.Results.{Cases};
 ghost use Rattle.std.specs.Options.{Cases as BySome};
-ghost use Rattle.trace_file.specs.Identifier.{kind, Run, Form, number};
+ghost use Rattle.trace_file.specs.Identifier.{kind, Run, Form, number, width};
 ghost use Rattle.trace_file.specs.declared.identifier.Kind.the-variants.{Other};
 ghost use Rattle.trace_file.specs.Fault.{parts};
 ghost use Rattle.trace_file.specs.File.{in-file};
@@ -58,7 +58,7 @@ fn run_end(chars: &[u8], from: usize, of: Kind) -> usize
 
 // The number that the digits say. The characters are known to be digits and blanks.
 fn value(chars: &[u8]) -> u32
-    requires short { ⌜ length (now chars) ≤ 4 ⌝ }
+    requires short { ⌜ length (now chars) ≤ width ⌝ }
     requires plain { ⌜ ((k : ℕ) → k < length (now chars) → kind (getD (now chars) k 0) ≡ Other → ⊥) ⌝ }
     ensures { λ r. ⌜ r ≡ number (now (chars .entry)) ⌝ }
 {
@@ -73,7 +73,7 @@ fn value(chars: &[u8]) -> u32
 
 // The number of an identifier, if the characters are one.
 fn number_of(chars: &[u8]) -> Option<u32>
-    requires { ⌜ length (now chars) ≤ 4 ⌝ }
+    requires { ⌜ length (now chars) ≤ width ⌝ }
     ensures { λ r. ⌜ BySome r (Form (now (chars .entry)) → ⊥) (λ n. Form (now (chars .entry)) × (n ≡ number (now (chars .entry)))) ⌝ }
 {
     let from = run_end(chars, 0, Kind::Blank);
@@ -93,9 +93,9 @@ impl<'a> Identifier<'a> {
     pub(crate) fn read(bytes: &'a [u8], at: usize) -> Result<Identifier<'a>, Fault>
         requires there { ⌜ 9 ≤ length (now bytes) ⌝ }
         requires within { ⌜ at + length (now bytes) < 2 ^ 64 ⌝ }
-        ensures { λ r. ⌜ Cases r (IdentifierAt at (now (bytes .entry))) (λ f. (Form (take 4 (drop 5 (now (bytes .entry)))) → ⊥) × (parts f ≡ in-file 4 at)) ⌝ }
+        ensures { λ r. ⌜ Cases r (IdentifierAt at (now (bytes .entry))) (λ f. (Form (take width (drop 5 (now (bytes .entry)))) → ⊥) × (parts f ≡ in-file 4 at)) ⌝ }
     {
-        let chars = &bytes[5..9];
+        let chars = &bytes[5..5 + WIDTH];
         let Some(number) = number_of(chars) else {
             return Err(Fault::in_file(Refusal::BadIdentifier, at));
         };

@@ -27,7 +27,7 @@ use Rattle.trace_file.proofs.Runs.{one-more as read-more}
 use Rattle.trace_file.proofs.Padding.{padded-form, number-padded}
 use Rattle.trace_writer.specs.Writing.{written}
 use Rattle.trace_writer.proofs.Writes.{length-written, take-written, written-inside, written-again}
-use Rattle.trace_writer.specs.Tidying.{tidied, tidy-file, InIdentifier, HasTidied, over, FourDigits, Among, IsTidy, Untidy, no-command, kept, changed}
+use Rattle.trace_writer.specs.Tidying.{tidied, tidy-file, InIdentifier, HasTidied, over, Short, Among, IsTidy, Untidy, no-command, kept, changed}
 
 proper : (o : Operand (List ℕ)) → Proper o → Proper (operand-with (λ cs. padded (number cs)) o)
 proper Nothing h = tt
@@ -190,12 +190,12 @@ module _ (r s : Reader) (t : Timed Identifier) (took : Took r t s) where
   found : (i : Identifier) → command (t .event) .1 ≡ Id i → IdentifierAt (r .at) (r .rest .now) i
   found i e = subst (OperandAt (r .at) (r .rest .now)) e (took .front .operand)
 
-  small : (o : Operand Identifier) → command (t .event) .1 ≡ o → FourDigits o
+  small : (o : Operand Identifier) → command (t .event) .1 ≡ o → Short o
   small Nothing e = tt
   small (Id i) e = omega (arith, found i e .number, number-small (chars i) (found i e .form) (four i e))
   small (Thread n) e = tt
 
-  pub four-digits : FourDigits (command (t .event) .1)
+  pub four-digits : Short (command (t .event) .1)
   four-digits = small (command (t .event) .1) refl
 
   -- an identifier is in the writer's padding just where tidying leaves its command as it is

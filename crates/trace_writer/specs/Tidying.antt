@@ -15,7 +15,7 @@ use Rattle.trace_file.specs.declared.identifier.Identifier.{Identifier}
 use Rattle.trace_file.specs.Event.{command, timed-with}
 use Rattle.trace_file.specs.Fault.{parts}
 use Rattle.trace_file.specs.File.{Command, Reads, Refuses, FileOf, encoded, end-command}
-use Rattle.trace_file.specs.Identifier.{number, padded}
+use Rattle.trace_file.specs.Identifier.{number, padded, width, greatest}
 use Rattle.trace_writer.specs.Writing.{written, in-writer}
 
 -- a command with its identifier in the writer's padding
@@ -34,7 +34,7 @@ pub record InIdentifier (cs : List Command) (k : ℕ) : Type 0 where
   pub whole : cs ≡ before ++ at ∷ after
   pub entry : command (at .event) .0 ≡ 3
   pub from : length (joined encoded before) + 5 ≤ k
-  pub to : k < length (joined encoded before) + 9
+  pub to : k < length (joined encoded before) + 5 + width
 
 -- The file was written again: the output bytes, all of them, and what they are.
 pub record HasTidied (file out : List ℕ) (n : ℕ) (after : List ℕ) : Type 0 where
@@ -63,16 +63,16 @@ over out Nothing = out
 over out (Id i) = written out (i .place) (padded (i .number))
 over out (Thread t) = out
 
--- an identifier that was read has at most four digits
-abbrev pub FourDigits : Operand Identifier → Type 0
-FourDigits Nothing = Unit {0}
-FourDigits (Id i) = i .number ≤ 9999
-FourDigits (Thread t) = Unit {0}
+-- an identifier that was read has no more digits than are written
+abbrev pub Short : Operand Identifier → Type 0
+Short Nothing = Unit {0}
+Short (Id i) = i .number ≤ greatest
+Short (Thread t) = Unit {0}
 
 -- it stands among these bytes
 abbrev pub Among : List ℕ → Operand Identifier → Type 0
 Among out Nothing = Unit {0}
-Among out (Id i) = i .place + 4 ≤ length out
+Among out (Id i) = i .place + width ≤ length out
 Among out (Thread t) = Unit {0}
 
 -- and is in the writer's padding already

@@ -12,7 +12,7 @@ use Rattle.trace_file.specs.declared.fault.Parts.{Parts}
 use Rattle.trace_file.specs.Event.{command, timed-with}
 use Rattle.trace_file.specs.Fault.{Rule, First, None-of}
 use Rattle.trace_file.specs.File.{Command, encoded, end-command, most-events}
-use Rattle.trace_file.specs.Identifier.{padded}
+use Rattle.trace_file.specs.Identifier.{padded, greatest}
 
 -- the bytes with others written over them from a place on
 abbrev pub written : List ℕ → ℕ → List ℕ → List ℕ
@@ -29,7 +29,7 @@ bytes-of es = joined encoded (map command-for es)
 -- an operand that an identifier or two bytes can hold
 abbrev pub Small : Operand ℕ → Type 0
 Small Nothing = Unit {0}
-Small (Identifier n) = n ≤ 9999
+Small (Identifier n) = n ≤ greatest
 Small (Thread t) = t < 2 ^ 16
 
 -- an event that a file can hold
@@ -38,10 +38,10 @@ pub record Writable (e : Timed ℕ) : Type 0 where
   pub fits : e .gap < 2 ^ 32
   pub operand : Small (command (e .event) .1)
 
--- an identifier that four digits cannot hold
+-- an identifier too great to be written
 abbrev pub Great : Operand ℕ → Type 0
 Great Nothing = ⊥
-Great (Identifier n) = 9999 < n
+Great (Identifier n) = greatest < n
 Great (Thread t) = ⊥
 
 abbrev pub in-writer : ℕ → ℕ → Parts

@@ -4,14 +4,14 @@ ghost use Prim.Native.Nat.{_+_, _<_, _≤_};
 ghost use lib.ListN.{length};
 ghost use Rattle.trace_file.specs.Event.{command, operand-with};
 ghost use Rattle.trace_file.specs.File.{encoded, operand-bytes, end-command};
-ghost use Rattle.trace_file.specs.Identifier.{padded};
+ghost use Rattle.trace_file.specs.Identifier.{padded, greatest};
 ghost use Rattle.trace_writer.specs.Writing.{written, Small, command-for};
 use trace_file::event::Event;
 use trace_file::event::Operand;
 
 // The four digits of an identifier's number.
 pub(crate) fn digits(number: u32) -> [u8; 4]
-    requires { ⌜ number ≤ 9999 ⌝ }
+    requires { ⌜ number ≤ greatest ⌝ }
     ensures { λ r. ⌜ r ≡ padded number ⌝ }
 {
     [

@@ -7,7 +7,7 @@ ghost use Rattle.std.specs.Results.{Cases};
 ghost use Rattle.trace_file.specs.Event.{command};
 ghost use Rattle.trace_file.specs.Fault.{parts};
 ghost use Rattle.trace_file.specs.File.{Command, Reads, Refuses};
-ghost use Rattle.trace_writer.specs.Tidying.{Tidies, over, FourDigits, Among, IsTidy, Untidy};
+ghost use Rattle.trace_writer.specs.Tidying.{Tidies, over, Short, Among, IsTidy, Untidy};
 use crate::admission::refused;
 use crate::bytes::copy;
 use crate::bytes::digits;
@@ -21,7 +21,7 @@ use trace_file::reader::Reader;
 
 // Writes an event's identifier over the one that stands at its place.
 fn pad(out: &mut [u8], event: Event<Identifier<'_>>)
-    requires digits { ⌜ FourDigits (command event .1) ⌝ }
+    requires digits { ⌜ Short (command event .1) ⌝ }
     requires among { ⌜ Among (now out) (command event .1) ⌝ }
     ensures { λ _. ⌜ now (out .exit) ≡ over (now (out .entry)) (command (event .entry) .1) ⌝ }
 {
@@ -33,7 +33,7 @@ fn pad(out: &mut [u8], event: Event<Identifier<'_>>)
 
 // Whether an event has no identifier or one in the writer's padding.
 fn is_tidy(event: Event<Identifier<'_>>) -> bool
-    requires { ⌜ FourDigits (command event .1) ⌝ }
+    requires { ⌜ Short (command event .1) ⌝ }
     ensures { λ r. ⌜ Decides r (IsTidy (command (event .entry) .1)) ⌝ }
 {
     let (_, operand) = event.command();
