@@ -8,16 +8,16 @@ use trace_file::fault::PartsPartialEq;
 use trace_file::reader::Reader;
 
 // The layer that refuses a file.
-pub const IN_FILE: u8 = 1;
+pub(crate) const IN_FILE: u8 = 1;
 
 // The layer that refuses to write.
-pub const IN_WRITER: u8 = 5;
+pub(crate) const IN_WRITER: u8 = 5;
 
 // What is granted, or the number and the place of a refusal.
 pub type Answer<T> = Result<T, (u8, usize)>;
 
 // What a layer must answer, in numbers.
-pub fn expected<T>(layer: u8, answer: Answer<T>) -> Result<T, Parts> {
+pub(crate) fn expected<T>(layer: u8, answer: Answer<T>) -> Result<T, Parts> {
     match answer {
         Ok(x) => Ok(x),
         Err((number, place)) => Err(Parts {
@@ -30,7 +30,7 @@ pub fn expected<T>(layer: u8, answer: Answer<T>) -> Result<T, Parts> {
 }
 
 // An answer with its fault in numbers.
-pub fn parts<T>(answer: Result<T, Fault>) -> Result<T, Parts> {
+pub(crate) fn parts<T>(answer: Result<T, Fault>) -> Result<T, Parts> {
     match answer {
         Ok(x) => Ok(x),
         Err(fault) => Err(fault.parts()),
@@ -49,7 +49,7 @@ fn handed_out(file: &[u8]) -> Result<u32, Fault> {
 }
 
 // A check of the file and a reader of it both answer this.
-pub fn answers(file: &[u8], answer: Answer<u32>) -> Result<(), Fail> {
+pub(crate) fn answers(file: &[u8], answer: Answer<u32>) -> Result<(), Fail> {
     let expected = expected(IN_FILE, answer);
     check_eq(parts(trace_file::check(file)), expected)?;
     check_eq(parts(handed_out(file)), expected).note("by a reader")

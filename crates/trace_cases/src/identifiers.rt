@@ -7,7 +7,7 @@ use trace_file::fault::PartsDebug;
 use trace_file::reader::Reader;
 
 // A file whose second event has an identifier with these characters, at place 10.
-pub fn file_with(chars: [u8; 4]) -> [u8; 19] {
+pub(crate) fn file_with(chars: [u8; 4]) -> [u8; 19] {
     let mut file = *b"\x01\x01\0\0\0\x03\x02\0\0\0????\0\x02\0\0\0";
     file[10..14].copy_from_slice(&chars);
     file

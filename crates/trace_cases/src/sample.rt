@@ -3,7 +3,7 @@ use trace_file::event::Event;
 use trace_file::event::Timed;
 
 // How many bytes it has.
-pub const SIZE: usize = 95;
+pub(crate) const SIZE: usize = 95;
 
 // Each line is a command: its byte, the gap and the operand.
 pub static FILE: [u8; SIZE] = *b"\
@@ -66,7 +66,7 @@ static PLACES: [usize; 17] = [
 ];
 
 // Where the command begins that is cut short where the file ends after so many bytes.
-pub fn command_cut(size: usize) -> usize {
+pub(crate) fn command_cut(size: usize) -> usize {
     let mut place = 0;
     for start in &PLACES {
         if *start <= size {
@@ -80,7 +80,7 @@ fn after(gap: u32, event: Event<u32>) -> Timed<u32> {
     Timed { gap, event }
 }
 
-pub fn events() -> [Timed<u32>; 16] {
+pub(crate) fn events() -> [Timed<u32>; 16] {
     [
         after(10, Event::PreemptDisable),
         after(5, Event::IrqEntry(33)),

@@ -1,7 +1,7 @@
 // The output bytes of a case.
 
 // How many there are.
-pub const ROOM: usize = 100;
+pub(crate) const ROOM: usize = 100;
 
 // What each of them is before anything is written.
-pub const BEFORE: u8 = 0xee;
+pub(crate) const BEFORE: u8 = 0xee;

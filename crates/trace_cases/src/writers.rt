@@ -8,7 +8,7 @@ use trace_writer::writer::Unclosed;
 use trace_writer::writer::Writer;
 
 // The writer, or where a check of it failed the failure, with the writer given up.
-pub fn kept(writer: Writer, checked: Result<(), Fail>) -> Result<Writer, Fail> {
+pub(crate) fn kept(writer: Writer, checked: Result<(), Fail>) -> Result<Writer, Fail> {
     match checked {
         Ok(()) => Ok(writer),
         Err(fail) => {
@@ -19,7 +19,7 @@ pub fn kept(writer: Writer, checked: Result<(), Fail>) -> Result<Writer, Fail> {
 }
 
 // In so many of the output bytes the writer is closed, and the file has this size.
-pub fn closed(writer: Writer, out: &mut [u8], room: usize, size: usize) -> Result<(), Fail> {
+pub(crate) fn closed(writer: Writer, out: &mut [u8], room: usize, size: usize) -> Result<(), Fail> {
     let room = room.min(out.len());
     match writer.close(&mut out[0..room]) {
         Ok(found) => check_eq(found, size),
@@ -31,7 +31,7 @@ pub fn closed(writer: Writer, out: &mut [u8], room: usize, size: usize) -> Resul
 }
 
 // So many of the output bytes are too few for the end command, and the writer is handed back.
-pub fn unclosed(writer: Writer, out: &mut [u8], room: usize, place: usize) -> Result<Writer, Fail> {
+pub(crate) fn unclosed(writer: Writer, out: &mut [u8], room: usize, place: usize) -> Result<Writer, Fail> {
     let room = room.min(out.len());
     match writer.close(&mut out[0..room]) {
         Ok(_) => Err(Fail::new("closed")),
