@@ -1,19 +1,19 @@
 -- The definitions give what each case says. Assumes nothing.
-use mathlib.Core.Path.{_≡_, refl, sym, _∙_}
-use mathlib.Core.Logic.{_⊎_, inl, inr, ⊎-elim}
-use mathlib.Core.List.{List, [], _∷_, _++_}
+use mathlib.Core.Path.{_≡_, refl}
+use mathlib.Core.Logic.{inl, inr, ⊎-elim}
+use mathlib.Core.List.{List, [], _∷_}
 use Prim.Native.Nat.{ℕ, zero, suc, _+_, _^_, _<_, _≤_}
 use native.Mathlib.Omega.{arith}
 use lib.Chars.{codes}
 use lib.Dec.{lit<, lit≤}
-use lib.ListN.{length, getD, take, drop}
+use lib.ListN.{length, getD, take}
 use Rattle.std.proofs.shelf.Tests.{cases-lt}
 use Rattle.std.specs.shelf.Lists.{All}
 use Rattle.trace_file.specs.declared.event.Event.the-variants.{IrqEntry}
 use Rattle.trace_file.specs.declared.identifier.Kind.{Kind}
-use Rattle.trace_file.specs.declared.identifier.Kind.the-variants.{Blank, Digit, Other}
+use Rattle.trace_file.specs.declared.identifier.Kind.the-variants.{Blank, Digit}
 use Rattle.trace_file.specs.Event.{command}
-use Rattle.trace_file.specs.File.{Command, Proper, Sound, Reads, FileOf, Refuses, end-command, in-file}
+use Rattle.trace_file.specs.File.{Command, Proper, Sound, FileOf, Refuses, end-command, in-file}
 use Rattle.trace_file.specs.Identifier.{kind, Form}
 use Rattle.trace_file.proofs.Padding.{padded-form}
 use Rattle.trace_cases.specs.Cases.{Holds, cases, after, entry, example, example-file, example-events}

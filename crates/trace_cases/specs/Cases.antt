@@ -3,7 +3,7 @@ use mathlib.Core.Path.{_≡_}
 use mathlib.Core.List.{List, [], _∷_, _++_}
 use Prim.Native.Nat.{ℕ, _<_}
 use lib.Chars.{codes}
-use lib.ListN.{length, take}
+use lib.ListN.{take}
 use Rattle.std.specs.Joined.{joined}
 use Rattle.trace_file.specs.declared.event.Event.{Event}
 use Rattle.trace_file.specs.declared.event.Event.the-variants.{NmiEntry, NmiExit, IrqEntry, IrqExit, LocalIrqDisable, LocalIrqEnable, PreemptDisable, PreemptEnable, PreemptDisableSched, ScheduleEntry, SchedSwitch, ScheduleExit, PreemptEnableSched, NeedResched}

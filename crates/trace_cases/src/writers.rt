@@ -31,7 +31,12 @@ pub(crate) fn closed(writer: Writer, out: &mut [u8], room: usize, size: usize) -
 }
 
 // So many of the output bytes are too few for the end command, and the writer is handed back.
-pub(crate) fn unclosed(writer: Writer, out: &mut [u8], room: usize, place: usize) -> Result<Writer, Fail> {
+pub(crate) fn unclosed(
+    writer: Writer,
+    out: &mut [u8],
+    room: usize,
+    place: usize,
+) -> Result<Writer, Fail> {
     let room = room.min(out.len());
     match writer.close(&mut out[0..room]) {
         Ok(_) => Err(Fail::new("closed")),

@@ -1,6 +1,6 @@
 -- Numbers in bytes, and the parts of a list that hold them. Assumes nothing.
 use mathlib.Core.Path.{_≡_, refl, sym, ap, _∙_}
-use mathlib.Core.List.{List, [], _∷_, _++_}
+use mathlib.Core.List.{List, [], _∷_}
 use Prim.Native.Nat.{ℕ, zero, suc, _+_, _*_, _/_, _%_, _^_, _≤_, _<_}
 use native.Mathlib.Omega.{arith}
 use native.Mathlib.Nat.{add-comm, zero-add, add-mul-mod-self-left, add-mul-div-left, mod-eq-of-lt, div-eq-of-lt, div-lt-iff-lt-mul, div-add-mod, pow-suc}

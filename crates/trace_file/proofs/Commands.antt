@@ -1,9 +1,13 @@
 -- The command table, and the bytes of commands. Assumes nothing.
 use mathlib.Core.Path.{_≡_, refl, sym, ap, subst, _∙_}
 use mathlib.Core.List.{List, [], _∷_, _++_}
-use Prim.Native.Nat.{ℕ, _+_, _*_, _/_, _%_, _^_, _≤_, _<_}
+use Prim.Native.Nat.{ℕ, _+_, _^_, _≤_, _<_}
 use native.Mathlib.Omega.{arith}
-use lib.ListN.{length, getD, take, drop, length-take, length-drop, length-append, take-append-drop}
+use mathlib.Core.Logic.{⊎-elim}
+use mathlib.Core.Bool.{cond, _||_}
+use lib.Dec.{eqb, lit≤}
+use Rattle.std.proofs.shelf.Tests.{cases-bool, cond-both, eqb-true}
+use lib.ListN.{length, getD, take, drop, length-drop, take-append-drop}
 use Rattle.std.proofs.shelf.Lists.{drop-all, drop-more, drop-drop, length-take-le, append-assoc}
 use Rattle.trace_file.specs.declared.event.Event.{Event}
 use Rattle.trace_file.specs.declared.event.Event.the-variants.{NmiEntry, NmiExit, IrqEntry, IrqExit, LocalIrqDisable, LocalIrqEnable, PreemptDisable, PreemptEnable, PreemptDisableSched, ScheduleEntry, SchedSwitch, ScheduleExit, PreemptEnableSched, NeedResched, SchedWaking}
@@ -13,7 +17,7 @@ use Rattle.trace_file.specs.declared.event.Timed.{Timed}
 use Rattle.trace_file.specs.declared.identifier.Identifier.{Identifier}
 use Rattle.trace_file.specs.Event.{command, with, operand-with, timed-with}
 use Rattle.trace_file.specs.File.{Command, little, from-little, operand-bytes, encoded, end-command, Proper, Sound, size}
-use Rattle.trace_file.specs.Reading.{Stands, chars, as-read, IdentifierAt, OperandAt, EventAt, Front}
+use Rattle.trace_file.specs.Reading.{Stands, chars, as-read, OperandAt, EventAt, Front}
 
 -- how many bytes an operand takes
 abbrev pub operand-size : {I : Type 0} → Operand I → ℕ
@@ -60,40 +64,69 @@ command-with f PreemptEnableSched = refl
 command-with f NeedResched = refl
 command-with f (SchedWaking t) = refl
 
+-- the event that a byte and an operand of the table stand for
+abbrev of-command : {I : Type 0} → ℕ → Operand I → Event I
+of-command b Nothing =
+    getD (NmiEntry ∷ NmiEntry ∷ NmiExit ∷ NmiEntry ∷ IrqExit ∷ LocalIrqDisable ∷ LocalIrqEnable ∷ PreemptDisable ∷ PreemptEnable ∷ PreemptDisableSched ∷ ScheduleEntry ∷ NmiEntry ∷ ScheduleExit ∷ PreemptEnableSched ∷ NeedResched ∷ []) b NmiEntry
+of-command b (Id i) = IrqEntry i
+of-command b (Thread t) = cond (eqb b 11) (SchedSwitch t) (SchedWaking t)
+
+of-command-is : {I : Type 0} (e : Event I) → of-command (command e .0) (command e .1) ≡ e
+of-command-is NmiEntry = refl
+of-command-is NmiExit = refl
+of-command-is (IrqEntry i) = refl
+of-command-is IrqExit = refl
+of-command-is LocalIrqDisable = refl
+of-command-is LocalIrqEnable = refl
+of-command-is PreemptDisable = refl
+of-command-is PreemptEnable = refl
+of-command-is PreemptDisableSched = refl
+of-command-is ScheduleEntry = refl
+of-command-is (SchedSwitch t) = refl
+of-command-is ScheduleExit = refl
+of-command-is PreemptEnableSched = refl
+of-command-is NeedResched = refl
+of-command-is (SchedWaking t) = refl
+
+-- no two events have one entry in the table
+pub same-event : {I : Type 0} (e f : Event I) → command e ≡ command f → e ≡ f
+same-event e f same = sym (of-command-is e) ∙ ap (λ c. of-command (c .0) (c .1)) same ∙ of-command-is f
+
+operand-with-with : {I J K : Type 0} (f : I → J) (g : J → K) (o : Operand I) → operand-with g (operand-with f o) ≡ operand-with (λ i. g (f i)) o
+operand-with-with f g Nothing = refl
+operand-with-with f g (Id i) = refl
+operand-with-with f g (Thread t) = refl
+
+operand-same : {I : Type 0} (o : Operand I) → operand-with (λ i. i) o ≡ o
+operand-same Nothing = refl
+operand-same (Id i) = refl
+operand-same (Thread t) = refl
+
 pub with-with : {I J K : Type 0} (f : I → J) (g : J → K) (e : Event I) → with g (with f e) ≡ with (λ i. g (f i)) e
-with-with f g NmiEntry = refl
-with-with f g NmiExit = refl
-with-with f g (IrqEntry i) = refl
-with-with f g IrqExit = refl
-with-with f g LocalIrqDisable = refl
-with-with f g LocalIrqEnable = refl
-with-with f g PreemptDisable = refl
-with-with f g PreemptEnable = refl
-with-with f g PreemptDisableSched = refl
-with-with f g ScheduleEntry = refl
-with-with f g (SchedSwitch t) = refl
-with-with f g ScheduleExit = refl
-with-with f g PreemptEnableSched = refl
-with-with f g NeedResched = refl
-with-with f g (SchedWaking t) = refl
+with-with f g e =
+    same-event (with g (with f e)) (with (λ i. g (f i)) e)
+    (command-with g (with f e)
+    ∙ ap (λ c. (c .0, operand-with g (c .1))) (command-with f e)
+    ∙ ap (λ o. (command e .0, o)) (operand-with-with f g (command e .1))
+    ∙ sym (command-with (λ i. g (f i)) e))
+
+pub with-same : {I : Type 0} (e : Event I) → with (λ i. i) e ≡ e
+with-same e = same-event (with (λ i. i) e) e (command-with (λ i. i) e ∙ ap (λ o. (command e .0, o)) (operand-same (command e .1)))
+
+nine : (b : ℕ) → size b ≡ 9 → b ≡ 3
+nine b long =
+    ⊎-elim (λ t. eqb-true b 3 t)
+    (λ t. let short : size b ≤ 7 = rw (t) (cond-both (eqb b 11 || eqb b 15) 7 5 (λ n. n ≤ 7) (λ _. lit≤ tt) (λ _. lit≤ tt)) in absurd (omega arith))
+    (cases-bool (eqb b 3))
 
 -- what is done to identifiers leaves the bytes of other operands alone
+other-bytes : (f : List ℕ → List ℕ) (b : ℕ) (o : Operand (List ℕ)) → size b ≡ 5 + operand-size o → (b ≡ 3 → ⊥) → operand-bytes (operand-with f o) ≡ operand-bytes o
+other-bytes f b Nothing long apart = refl
+other-bytes f b (Id cs) long apart = absurd (apart (nine b long))
+other-bytes f b (Thread t) long apart = refl
+
 pub same-bytes : (f : List ℕ → List ℕ) (e : Event (List ℕ)) → (command e .0 ≡ 3 → ⊥) → operand-bytes (operand-with f (command e .1)) ≡ operand-bytes (command e .1)
-same-bytes f NmiEntry h = refl
-same-bytes f NmiExit h = refl
-same-bytes f (IrqEntry i) h = absurd (h refl)
-same-bytes f IrqExit h = refl
-same-bytes f LocalIrqDisable h = refl
-same-bytes f LocalIrqEnable h = refl
-same-bytes f PreemptDisable h = refl
-same-bytes f PreemptEnable h = refl
-same-bytes f PreemptDisableSched h = refl
-same-bytes f ScheduleEntry h = refl
-same-bytes f (SchedSwitch t) h = refl
-same-bytes f ScheduleExit h = refl
-same-bytes f PreemptEnableSched h = refl
-same-bytes f NeedResched h = refl
-same-bytes f (SchedWaking t) h = refl
+same-bytes f e = other-bytes f (command e .0) (command e .1) (size-is e)
 
 -- the bytes of a command whose identifier was turned into another
 pub encoded-with : {I : Type 0} (f : I → List ℕ) (t : Timed I) → encoded (timed-with f t) ≡ command (t .event) .0 ∷ (little 4 (t .gap) ++ operand-bytes (operand-with f (command (t .event) .1)))

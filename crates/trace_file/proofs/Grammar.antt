@@ -1,46 +1,38 @@
 -- The commands of a file are determined by its bytes. Assumes nothing.
 use mathlib.Core.Path.{_≡_, refl, sym, ap, subst, _∙_}
-use mathlib.Core.Logic.{_⊎_, inl, inr, ⊎-elim}
+use mathlib.Core.Logic.{⊎-elim}
 use mathlib.Core.List.{List, [], _∷_, _++_, append-assoc}
-use Prim.Native.Nat.{ℕ, zero, suc, _+_, _*_, _/_, _%_, _^_, _≤_, _<_}
+use Prim.Native.Nat.{ℕ, suc, _+_, _≤_, _<_}
 use native.Mathlib.Omega.{arith}
 use native.Mathlib.Nat.{zero-add}
 use lib.Dec.{lit<, lit≤}
-use lib.ListN.{length, getD, take, drop, length-append}
+use lib.ListN.{length, take, drop, length-append}
 use Rattle.std.specs.Joined.{joined}
 use Rattle.std.specs.shelf.Lists.{All}
-use Rattle.std.proofs.shelf.Lists.{take-at, drop-at, append-nil}
+use Rattle.std.proofs.shelf.Lists.{take-at, drop-at}
 use Rattle.trace_file.specs.declared.event.Event.{Event}
 use Rattle.trace_file.specs.declared.event.Event.the-variants.{NmiEntry, NmiExit, IrqEntry, IrqExit, LocalIrqDisable, LocalIrqEnable, PreemptDisable, PreemptEnable, PreemptDisableSched, ScheduleEntry, SchedSwitch, ScheduleExit, PreemptEnableSched, NeedResched, SchedWaking}
+use Rattle.trace_file.specs.declared.event.Operand.{Operand}
+use Rattle.trace_file.specs.declared.event.Operand.the-variants.{Nothing, Identifier as Id, Thread}
 use Rattle.trace_file.specs.declared.fault.Parts.{Parts}
 use Rattle.trace_file.specs.Event.{command}
 use Rattle.trace_file.specs.Fault.{Rule, First, None-of}
-use Rattle.trace_file.specs.File.{Command, most-events, little, from-little, operand-bytes, encoded, end-command, Proper, Sound, Reads, Refuses, refusals, size, word}
+use Rattle.trace_file.specs.File.{Command, most-events, little, from-little, operand-bytes, encoded, end-command, Proper, Sound, Reads, Refuses, refusals, size}
 use Rattle.trace_file.specs.Identifier.{Form}
 use Rattle.trace_file.proofs.Bytes.{from-little-fits}
-use Rattle.trace_file.proofs.Commands.{operand-size, size-is, length-encoded}
+use Rattle.trace_file.proofs.Commands.{operand-size, size-is, length-encoded, same-event}
 
--- the event that a command byte and the bytes of its operand say
-abbrev decoded : ℕ → List ℕ → Event (List ℕ)
-decoded b bs =
-    getD (NmiEntry ∷ NmiEntry ∷ NmiExit ∷ IrqEntry bs ∷ IrqExit ∷ LocalIrqDisable ∷ LocalIrqEnable ∷ PreemptDisable ∷ PreemptEnable ∷ PreemptDisableSched ∷ ScheduleEntry ∷ SchedSwitch (from-little bs) ∷ ScheduleExit ∷ PreemptEnableSched ∷ NeedResched ∷ SchedWaking (from-little bs) ∷ []) b NmiEntry
-
-decoded-is : (e : Event (List ℕ)) → Proper (command e .1) → decoded (command e .0) (operand-bytes (command e .1)) ≡ e
-decoded-is NmiEntry h = refl
-decoded-is NmiExit h = refl
-decoded-is (IrqEntry i) h = refl
-decoded-is IrqExit h = refl
-decoded-is LocalIrqDisable h = refl
-decoded-is LocalIrqEnable h = refl
-decoded-is PreemptDisable h = refl
-decoded-is PreemptEnable h = refl
-decoded-is PreemptDisableSched h = refl
-decoded-is ScheduleEntry h = refl
-decoded-is (SchedSwitch t) h = ap SchedSwitch (from-little-fits 2 t h)
-decoded-is ScheduleExit h = refl
-decoded-is PreemptEnableSched h = refl
-decoded-is NeedResched h = refl
-decoded-is (SchedWaking t) h = ap SchedWaking (from-little-fits 2 t h)
+-- operands of one size with the same bytes are one
+same-operand : (o p : Operand (List ℕ)) → Proper o → Proper p → operand-size o ≡ operand-size p → operand-bytes o ≡ operand-bytes p → o ≡ p
+same-operand Nothing Nothing h k size e = refl
+same-operand Nothing (Id cs) h k size e = absurd (omega arith)
+same-operand Nothing (Thread t) h k size e = absurd (omega arith)
+same-operand (Id cs) Nothing h k size e = absurd (omega arith)
+same-operand (Id cs) (Id ds) h k size e = ap Id e
+same-operand (Id cs) (Thread t) h k size e = absurd (omega arith)
+same-operand (Thread t) Nothing h k size e = absurd (omega arith)
+same-operand (Thread t) (Id cs) h k size e = absurd (omega arith)
+same-operand (Thread t) (Thread u) h k size e = ap Thread (sym (from-little-fits 2 t h) ∙ ap from-little e ∙ from-little-fits 2 u k)
 
 byte-range : (e : Event (List ℕ)) → (0 < command e .0) × (command e .0 ≤ 15)
 byte-range NmiEntry = (lit< tt, lit≤ tt)
@@ -59,22 +51,10 @@ byte-range PreemptEnableSched = (lit< tt, lit≤ tt)
 byte-range NeedResched = (lit< tt, lit≤ tt)
 byte-range (SchedWaking t) = (lit< tt, lit≤ tt)
 
-identified : (e : Event (List ℕ)) → Proper (command e .1) → command e .0 ≡ 3 → (length (operand-bytes (command e .1)) ≡ 4) × Form (operand-bytes (command e .1))
-identified NmiEntry h p = absurd (omega arith)
-identified NmiExit h p = absurd (omega arith)
-identified (IrqEntry i) h p = h
-identified IrqExit h p = absurd (omega arith)
-identified LocalIrqDisable h p = absurd (omega arith)
-identified LocalIrqEnable h p = absurd (omega arith)
-identified PreemptDisable h p = absurd (omega arith)
-identified PreemptEnable h p = absurd (omega arith)
-identified PreemptDisableSched h p = absurd (omega arith)
-identified ScheduleEntry h p = absurd (omega arith)
-identified (SchedSwitch t) h p = absurd (omega arith)
-identified ScheduleExit h p = absurd (omega arith)
-identified PreemptEnableSched h p = absurd (omega arith)
-identified NeedResched h p = absurd (omega arith)
-identified (SchedWaking t) h p = absurd (omega arith)
+identified : (o : Operand (List ℕ)) → Proper o → operand-size o ≡ 4 → (length (operand-bytes o) ≡ 4) × Form (operand-bytes o)
+identified Nothing h size = absurd (omega arith)
+identified (Id cs) h size = h
+identified (Thread t) h size = absurd (omega arith)
 
 gap-said : (c : Command) → Sound c → from-little (little 4 (c .gap)) ≡ c .gap
 gap-said c h = from-little-fits 4 (c .gap) (h .fits)
@@ -90,7 +70,8 @@ same-command c d r s hc hd e =
     let o = sym (take-at _ r _ l) ∙ ap (take _) t ∙ take-at (operand-bytes (command (d .event) .1)) s _ refl in
     let rest = sym (drop-at _ r _ l) ∙ ap (drop _) t ∙ drop-at (operand-bytes (command (d .event) .1)) s _ refl in
     let gap = sym (gap-said c hc) ∙ ap from-little w ∙ gap-said d hd in
-    let event = sym (decoded-is (c .event) (hc .operand)) ∙ ap (λ x. decoded x (operand-bytes (command (c .event) .1))) b ∙ ap (decoded (command (d .event) .0)) o ∙ decoded-is (d .event) (hd .operand) in
+    let size : operand-size (command (c .event) .1) ≡ operand-size (command (d .event) .1) = omega (arith, length-encoded c hc, length-encoded d hd, k) in
+    let event = same-event (c .event) (d .event) (λ i. (b i, same-operand _ _ (hc .operand) (hd .operand) size o i)) in
     ((λ i. record { gap = gap i; event = event i }), rest)
 
 none-first : (rs : List Rule) (p : Parts) → None-of rs → First rs p → ⊥
@@ -120,7 +101,7 @@ sound-passes n at d t h few =
             (
               λ p. let g : d .gap ≡ 0 = sym (gap-said d h) ∙ p .1 in omega (arith, h .ticks),
               (
-                λ p. let i = identified (d .event) (h .operand) (p .0) in p .1 (subst Form (sym (take-at o t 4 (i .0))) (i .1)),
+                λ p. let i = identified _ (h .operand) (omega (arith, size-is (d .event), ap size (p .0))) in p .1 (subst Form (sym (take-at o t 4 (i .0))) (i .1)),
                 (
                   λ p. omega arith,
                   (λ p. omega arith, tt),

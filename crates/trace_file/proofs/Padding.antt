@@ -1,15 +1,14 @@
 -- A number padded with zeros is an identifier that says that number. Assumes nothing.
-use mathlib.Core.Path.{_≡_, refl, sym, ap, _∙_}
+use mathlib.Core.Path.{_≡_, refl, ap, _∙_}
 use mathlib.Core.Logic.{inl}
-use mathlib.Core.Bool.{true, false, cond, _&&_}
 use mathlib.Core.List.{List, [], _∷_}
 use Prim.Native.Nat.{ℕ, zero, suc, _+_, _-_, _*_, _/_, _%_, _≤_, _<_}
 use native.Mathlib.Omega.{arith}
 use native.Mathlib.Nat.{div-add-mod, div-div-eq-div-mul}
-use lib.Dec.{eqb, leb, lit<, lit≤}
-use lib.ListN.{length, getD}
+use lib.Dec.{leb, lit<, lit≤}
+use lib.ListN.{getD}
 use Rattle.std.proofs.shelf.Tests.{ne-eqb, le-leb, and-from}
-use Rattle.trace_file.specs.declared.identifier.Kind.the-variants.{Blank, Digit, Other}
+use Rattle.trace_file.specs.declared.identifier.Kind.the-variants.{Digit}
 use Rattle.trace_file.specs.Identifier.{kind, Form, number, number-after, padded}
 
 kind-digit : (d : ℕ) → d < 10 → kind (48 + d) ≡ Digit

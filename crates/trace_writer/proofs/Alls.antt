@@ -1,20 +1,20 @@
 -- Events that are written all at once, one after another. Assumes nothing.
 use mathlib.Core.Path.{_≡_, refl, sym, ap, subst, _∙_}
-use mathlib.Core.List.{List, [], _∷_, _++_, map, append-assoc}
-use Prim.Native.Nat.{ℕ, suc, _+_, _^_, _≤_, _<_}
+use mathlib.Core.List.{List, [], _∷_, _++_, append-assoc}
+use Prim.Native.Nat.{ℕ, _+_, _≤_, _<_}
 use native.Mathlib.Omega.{arith}
 use lib.ListN.{length, getD, take, drop, length-append}
 use Rattle.std.specs.shelf.Lists.{All}
-use Rattle.std.proofs.shelf.Elements.{all-push, all-getD}
-use Rattle.std.proofs.shelf.Lists.{take-all, take-more, drop-more, take-append-drop, length-take-le, length-push, map-append}
+use Rattle.std.proofs.shelf.Elements.{all-push}
+use Rattle.std.proofs.shelf.Lists.{take-all, take-more, drop-more, take-append-drop, length-take-le, length-push}
 use Rattle.trace_file.specs.declared.event.Timed.{Timed}
 use Rattle.trace_file.specs.declared.fault.Parts.{Parts}
 use Rattle.trace_file.specs.Fault.{First}
-use Rattle.trace_file.specs.File.{FileOf, encoded, end-command, most-events}
+use Rattle.trace_file.specs.File.{FileOf, encoded, end-command}
 use Rattle.trace_writer.specs.All.{Fitting, StopsAt, StopsAtEnd, WroteAll}
 use Rattle.trace_writer.specs.Writing.{written, command-for, bytes-of, Writable, Admitted, put-refusals, close-refusals}
 use Rattle.trace_writer.proofs.Held.{joined-push, file-of}
-use Rattle.trace_writer.proofs.Writes.{written-more, take-written}
+use Rattle.trace_writer.proofs.Writes.{take-written}
 
 -- the first i events can be put, in k bytes
 pub record Sofar (room : ℕ) (es : List (Timed ℕ)) (i k : ℕ) : Type 0 where

@@ -1,7 +1,7 @@
 -- What a writer's bytes hold, from one call to the next. Assumes nothing.
-use mathlib.Core.Path.{_≡_, refl, sym, ap, subst, _∙_}
+use mathlib.Core.Path.{_≡_, refl, sym, ap, subst, fun-ext, _∙_}
 use mathlib.Core.List.{List, [], _∷_, _++_, map}
-use Prim.Native.Nat.{ℕ, suc, _+_, _^_, _≤_, _<_}
+use Prim.Native.Nat.{ℕ, _+_, _≤_, _<_}
 use native.Mathlib.Omega.{arith}
 use lib.ListN.{length, take}
 use Rattle.std.specs.Joined.{joined}
@@ -9,14 +9,13 @@ use Rattle.std.specs.shelf.Lists.{All}
 use Rattle.std.proofs.shelf.Elements.{all-push, all-map, all-weaker}
 use Rattle.std.proofs.shelf.Lists.{joined-more, length-push, length-map, map-push}
 use Rattle.trace_file.specs.declared.event.Event.{Event}
-use Rattle.trace_file.specs.declared.event.Event.the-variants.{NmiEntry, NmiExit, IrqEntry, IrqExit, LocalIrqDisable, LocalIrqEnable, PreemptDisable, PreemptEnable, PreemptDisableSched, ScheduleEntry, SchedSwitch, ScheduleExit, PreemptEnableSched, NeedResched, SchedWaking}
 use Rattle.trace_file.specs.declared.event.Operand.{Operand}
 use Rattle.trace_file.specs.declared.event.Operand.the-variants.{Nothing, Identifier, Thread}
 use Rattle.trace_file.specs.declared.event.Timed.{Timed}
-use Rattle.trace_file.specs.Event.{command, with, operand-with}
-use Rattle.trace_file.specs.File.{Command, Sound, Proper, Reads, FileOf, meant, encoded, end-command, most-events}
+use Rattle.trace_file.specs.Event.{with, operand-with}
+use Rattle.trace_file.specs.File.{Sound, Proper, FileOf, meant, encoded, end-command, most-events}
 use Rattle.trace_file.specs.Identifier.{number, padded}
-use Rattle.trace_file.proofs.Commands.{command-with}
+use Rattle.trace_file.proofs.Commands.{command-with, with-with, with-same}
 use Rattle.trace_file.proofs.Padding.{padded-form, number-padded}
 use Rattle.trace_writer.specs.declared.writer.Writer.{Writer}
 use Rattle.trace_writer.specs.Putting.{Holds}
@@ -36,33 +35,19 @@ sound-for e h = record {
   operand = subst (λ c. Proper (c .1)) (sym (command-with padded (e .event))) (proper _ (h .operand));
 }
 
-back : (e : Event ℕ) → Small (command e .1) → with number (with padded e) ≡ e
-back NmiEntry h = refl
-back NmiExit h = refl
-back (IrqEntry n) h = ap IrqEntry (number-padded n)
-back IrqExit h = refl
-back LocalIrqDisable h = refl
-back LocalIrqEnable h = refl
-back PreemptDisable h = refl
-back PreemptEnable h = refl
-back PreemptDisableSched h = refl
-back ScheduleEntry h = refl
-back (SchedSwitch t) h = refl
-back ScheduleExit h = refl
-back PreemptEnableSched h = refl
-back NeedResched h = refl
-back (SchedWaking t) h = refl
+back : (e : Event ℕ) → with number (with padded e) ≡ e
+back e = with-with padded number e ∙ ap (λ f. with f e) (fun-ext number-padded) ∙ with-same e
 
 -- and says that event
-pub meant-for : (e : Timed ℕ) → Writable e → meant (command-for e) ≡ e
-meant-for e h = λ i. record { gap = e .gap; event = back (e .event) (h .operand) i }
+pub meant-for : (e : Timed ℕ) → meant (command-for e) ≡ e
+meant-for e = λ i. record { gap = e .gap; event = back (e .event) i }
 
 pub all-sound : (es : List (Timed ℕ)) → All Writable es → All Sound (map command-for es)
 all-sound es h = all-map Sound command-for es (all-weaker Writable (λ e. Sound (command-for e)) sound-for es h)
 
-pub all-meant : (es : List (Timed ℕ)) → All Writable es → map meant (map command-for es) ≡ es
-all-meant [] h = refl
-all-meant (e ∷ es) h = λ i. meant-for e (h .0) i ∷ all-meant es (h .1) i
+pub all-meant : (es : List (Timed ℕ)) → map meant (map command-for es) ≡ es
+all-meant [] = refl
+all-meant (e ∷ es) = λ i. meant-for e i ∷ all-meant es i
 
 pub joined-push : (es : List (Timed ℕ)) (e : Timed ℕ) → joined encoded (map command-for es) ++ encoded (command-for e) ≡ joined encoded (map command-for (es ++ e ∷ []))
 joined-push es e = joined-more encoded [] (map command-for es) (command-for e) ∙ ap (joined encoded) (sym (map-push command-for es e))
@@ -76,7 +61,7 @@ file-of es h few = record {
     sound = all-sound es h;
     few = simp length-map few;
   };
-  events = all-meant es h;
+  events = all-meant es;
 }
 
 module _ (w : Writer) (out : List ℕ) (es : List (Timed ℕ)) (holds : Holds w out es) where

@@ -1,11 +1,11 @@
 -- Commands with their identifiers in the writer's padding. Assumes nothing.
 use mathlib.Core.Path.{_≡_, refl, sym, ap, subst, fun-ext, _∙_}
-use mathlib.Core.Logic.{_⊎_, inl, inr, ⊎-elim}
+use mathlib.Core.Logic.{⊎-elim}
 use mathlib.Core.List.{List, [], _∷_, _++_, map, append-assoc}
-use Prim.Native.Nat.{ℕ, suc, _+_, _-_, _^_, _≤_, _<_}
+use Prim.Native.Nat.{ℕ, _+_, _-_, _≤_, _<_}
 use native.Mathlib.Omega.{arith}
 use native.Mathlib.Nat.{zero-add}
-use lib.ListN.{length, getD, take, drop, length-append}
+use lib.ListN.{length, getD, take, length-append}
 use Rattle.std.specs.Joined.{joined}
 use Rattle.std.specs.shelf.Lists.{All}
 use Rattle.std.proofs.shelf.Elements.{all-map, all-weaker}
@@ -16,8 +16,8 @@ use Rattle.trace_file.specs.declared.event.Operand.the-variants.{Nothing, Ident
 use Rattle.trace_file.specs.declared.event.Timed.{Timed}
 use Rattle.trace_file.specs.declared.identifier.Identifier.{Identifier}
 use Rattle.trace_file.specs.declared.reader.Reader.{Reader}
-use Rattle.trace_file.specs.Event.{command, with, operand-with, timed-with}
-use Rattle.trace_file.specs.File.{Command, Sound, Proper, Reads, FileOf, meant, little, operand-bytes, encoded, end-command, most-events, size as size-of}
+use Rattle.trace_file.specs.Event.{command, with, operand-with}
+use Rattle.trace_file.specs.File.{Command, Sound, Proper, Reads, FileOf, meant, little, operand-bytes, encoded, end-command, size as size-of}
 use Rattle.trace_file.specs.Identifier.{number, padded}
 use Rattle.trace_file.specs.Reading.{as-read, chars, IdentifierAt, OperandAt, Took, HasRead}
 use Rattle.trace_file.proofs.Commands.{command-with, encoded-with, with-with, same-bytes, size-with, operand-size, size-is, length-encoded}

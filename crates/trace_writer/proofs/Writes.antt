@@ -1,17 +1,15 @@
 -- Bytes written after one another, and the bytes of a command. Assumes nothing.
-use mathlib.Core.Path.{_≡_, refl, sym, ap, subst, _∙_}
+use mathlib.Core.Path.{_≡_, refl, sym, ap, _∙_}
 use mathlib.Core.List.{List, [], _∷_, _++_, append-assoc}
-use Prim.Native.Nat.{ℕ, _+_, _*_, _/_, _%_, _^_, _≤_, _<_}
+use Prim.Native.Nat.{ℕ, _+_, _/_, _%_, _≤_}
 use native.Mathlib.Omega.{arith}
 use native.Mathlib.Nat.{add-zero, zero-add, div-div-eq-div-mul}
 use lib.ListN.{length, take, drop, length-append, length-drop, take-append-drop}
 use Rattle.std.proofs.shelf.Lists.{append-nil, take-at, drop-at, drop-drop, length-take-le}
 use Rattle.trace_file.specs.declared.event.Event.{Event}
 use Rattle.trace_file.specs.declared.event.Operand.{Operand}
-use Rattle.trace_file.specs.declared.event.Operand.the-variants.{Nothing, Identifier, Thread}
-use Rattle.trace_file.specs.declared.event.Timed.{Timed}
-use Rattle.trace_file.specs.Event.{command, with, operand-with, timed-with}
-use Rattle.trace_file.specs.File.{Command, little, operand-bytes, encoded, end-command}
+use Rattle.trace_file.specs.Event.{command, operand-with}
+use Rattle.trace_file.specs.File.{little, operand-bytes, encoded}
 use Rattle.trace_file.specs.Identifier.{padded}
 use Rattle.trace_file.proofs.Commands.{encoded-with}
 use Rattle.trace_writer.specs.Writing.{written, command-for}

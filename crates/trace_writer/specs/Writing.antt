@@ -4,14 +4,13 @@ use mathlib.Core.List.{List, [], _∷_, _++_, map}
 use Prim.Native.Nat.{ℕ, _+_, _^_, _<_, _≤_}
 use lib.ListN.{length, take, drop}
 use Rattle.std.specs.Joined.{joined}
-use Rattle.std.specs.shelf.Lists.{All}
 use Rattle.trace_file.specs.declared.event.Operand.{Operand}
 use Rattle.trace_file.specs.declared.event.Operand.the-variants.{Nothing, Identifier, Thread}
 use Rattle.trace_file.specs.declared.event.Timed.{Timed}
 use Rattle.trace_file.specs.declared.fault.Parts.{Parts}
 use Rattle.trace_file.specs.Event.{command, timed-with}
-use Rattle.trace_file.specs.Fault.{Rule, First, None-of}
-use Rattle.trace_file.specs.File.{Command, encoded, end-command, most-events}
+use Rattle.trace_file.specs.Fault.{Rule, None-of}
+use Rattle.trace_file.specs.File.{Command, encoded, most-events}
 use Rattle.trace_file.specs.Identifier.{padded, greatest}
 
 -- the bytes with others written over them from a place on

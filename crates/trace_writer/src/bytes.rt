@@ -1,6 +1,6 @@
 // The bytes of a command, put into output bytes.
 ghost use mathlib.Core.Path.{_≡_};
-ghost use Prim.Native.Nat.{_+_, _<_, _≤_};
+ghost use Prim.Native.Nat.{_+_, _≤_};
 ghost use lib.ListN.{length};
 ghost use Rattle.trace_file.specs.Event.{command, operand-with};
 ghost use Rattle.trace_file.specs.File.{encoded, operand-bytes, end-command};

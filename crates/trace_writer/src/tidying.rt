@@ -1,7 +1,6 @@
 // Writes a file again with every identifier in the writer's padding.
 ghost use mathlib.Core.Path.{_≡_};
 ghost use mathlib.Core.List.{List};
-ghost use lib.ListN.{length};
 ghost use Rattle.std.specs.Orderings.{Decides};
 ghost use Rattle.std.specs.Results.{Cases};
 ghost use Rattle.trace_file.specs.Event.{command};

@@ -1,4 +1,3 @@
-use native.Mathlib.Omega.{arith}
 use Rattle.trace_file.proofs.Commands.{front}
 use Rattle.trace_file.proofs.command.command_at.Needs as need
 

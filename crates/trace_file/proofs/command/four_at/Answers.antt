@@ -1,6 +1,4 @@
-use mathlib.Core.Path.{sym, ap, _∙_}
 use native.Mathlib.Omega.{arith}
-use Rattle.trace_file.specs.File.{from-little}
 use Rattle.trace_file.proofs.Bytes.{take-four, stands}
 use Rattle.trace_file.proofs.command.four_at.Needs as need
 

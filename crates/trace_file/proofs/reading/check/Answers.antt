@@ -1,8 +1,7 @@
-use mathlib.Core.Path.{_≡_, refl, sym, ap, subst, _∙_}
+use mathlib.Core.Path.{ap, subst, _∙_}
 use lib.ListN.{length}
 use Rattle.std.specs.declared.result.Result.the-variants.{Ok}
 use Rattle.std.proofs.shelf.Results.{err-from-errBy}
-use Rattle.trace_file.specs.Fault.{parts}
 use Rattle.trace_file.specs.Reading.{Next, Says}
 use Rattle.trace_file.proofs.Grammar.{determined, apart, one-refusal}
 use Rattle.trace_file.proofs.reading.check.Needs as need

@@ -1,7 +1,3 @@
-use mathlib.Core.Path.{_≡_, refl, sym, ap, subst, _∙_}
-use Prim.Native.Nat.{_+_}
-use native.Mathlib.Omega.{arith}
-use lib.ListN.{length}
 use Rattle.trace_writer.proofs.Alls.{wrote-all}
 use Rattle.trace_writer.proofs.Writes.{written-on}
 use Rattle.trace_writer.proofs.all.write_all.Needs as need

@@ -1,11 +1,10 @@
-use mathlib.Core.Path.{_≡_, refl, sym, ap, subst, _∙_}
+use mathlib.Core.Path.{subst}
 use Prim.Native.Nat.{_≤_}
 use native.Mathlib.Omega.{arith}
 use lib.ListN.{length}
 use Rattle.std.specs.declared.result.Result.the-variants.{Ok}
 use Rattle.trace_file.specs.Reading.{Next, Says}
 use Rattle.trace_writer.proofs.Tidied.{copied, four-digits, among-now, one-more, finished}
-use Rattle.trace_writer.proofs.Writes.{length-written}
 use Rattle.trace_writer.proofs.tidying.tidy.Needs as need
 
 pub loop-reader-holds : need.loop-reader-holds

@@ -1,5 +1,4 @@
 use mathlib.Core.Path.{ap}
-use borrow.Author.Needs.{needs}
 use Rattle.trace_file.specs.Fault.{parts}
 use Rattle.trace_file.proofs.identifier.Identifier.read.Needs as need
 

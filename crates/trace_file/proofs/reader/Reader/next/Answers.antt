@@ -1,10 +1,8 @@
-use mathlib.Core.Path.{_≡_, refl, sym, ap, subst, _∙_}
-use Prim.Native.Nat.{_+_}
-use lib.ListN.{length, drop}
+use mathlib.Core.Path.{refl, subst}
 use Rattle.std.specs.declared.result.Result.the-variants.{Ok}
 use Rattle.std.proofs.shelf.Results.{err-from-errBy}
-use Rattle.trace_file.specs.Reading.{Front, Found, Took}
-use Rattle.trace_file.proofs.Runs.{took, one-more, ended, refused}
+use Rattle.trace_file.specs.Reading.{Found}
+use Rattle.trace_file.proofs.Runs.{took, one-more, refused}
 use Rattle.trace_file.proofs.reader.Reader.next.Needs as need
 
 pub returns-in-Break-command : need.returns-in-Break-command

@@ -1,10 +1,5 @@
-use mathlib.Core.Path.{refl, sym, ap, subst, _∙_}
+use mathlib.Core.Path.{refl, ap}
 use Prim.Native.Nat.{_+_}
-use native.Mathlib.Omega.{arith}
-use lib.ListN.{length}
-use Rattle.trace_file.specs.File.{encoded}
-use Rattle.trace_writer.specs.Putting.{Holds}
-use Rattle.trace_writer.specs.Writing.{command-for}
 use Rattle.trace_writer.proofs.Held.{put-held}
 use Rattle.trace_writer.proofs.writer.Writer.put.Needs as need
 
