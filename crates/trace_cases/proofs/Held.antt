@@ -1,4 +1,4 @@
--- The definitions give what each case says. Assumes nothing.
+-- The definitions give what each case says.
 use mathlib.Core.Path.{_≡_, refl}
 use mathlib.Core.Logic.{inl, inr, ⊎-elim}
 use mathlib.Core.List.{List, [], _∷_}
@@ -14,9 +14,9 @@ use Rattle.trace_file.specs.declared.identifier.Kind.{Kind}
 use Rattle.trace_file.specs.declared.identifier.Kind.the-variants.{Blank, Digit}
 use Rattle.trace_file.specs.Event.{command}
 use Rattle.trace_file.specs.File.{Command, Proper, Sound, FileOf, Refuses, end-command, in-file}
-use Rattle.trace_file.specs.Identifier.{kind, Form}
+use Rattle.trace_file.specs.Identifier.{kind, number, Form}
 use Rattle.trace_file.proofs.Padding.{padded-form}
-use Rattle.trace_cases.specs.Cases.{Holds, cases, after, entry, example, example-file, example-events}
+use Rattle.trace_cases.specs.Cases.{IsSo, cases, after, entry, example, example-file, example-events}
 
 apart : (k : Kind) → k ≡ Blank → k ≡ Digit → ⊥
 apart k p q = let z : _≡_ {A = ℕ} 0 1 = cc in omega arith
@@ -121,10 +121,35 @@ example-sound = (
   ),
 )
 
-nines : FileOf (entry (codes "9999")) (after 1 (IrqEntry 9999) ∷ [])
-nines = record {
-  commands = after 1 (IrqEntry (codes "9999")) ∷ [];
-  reads = record { whole = refl; sound = (plain _ (lit< tt) (lit< tt) (refl, padded-form 9999 (lit≤ tt)), tt); few = lit≤ tt };
+blanks-after : Form (codes "33  ")
+blanks-after = record {
+  from = 0;
+  to = 2;
+  some = lit< tt;
+  within = lit≤ tt;
+  before = λ k lt. absurd (omega arith);
+  digits = digits;
+  after = blanks;
+  one-side = inl refl;
+}
+  where
+    digits : (k : ℕ) → 0 ≤ k → k < 2 → kind (getD (codes "33  ") k 0) ≡ Digit
+    digits zero le lt = refl
+    digits (suc zero) le lt = refl
+    digits (suc (suc k)) le lt = absurd (omega arith)
+
+    blanks : (k : ℕ) → 2 ≤ k → k < 4 → kind (getD (codes "33  ") k 0) ≡ Blank
+    blanks zero le lt = absurd (omega arith)
+    blanks (suc zero) le lt = absurd (omega arith)
+    blanks (suc (suc zero)) le lt = refl
+    blanks (suc (suc (suc zero))) le lt = refl
+    blanks (suc (suc (suc (suc k)))) le lt = absurd (omega arith)
+
+-- a file of one entry whose characters are an identifier
+entered : (a b c d : ℕ) → Form (a ∷ b ∷ c ∷ d ∷ []) → FileOf (entry (a ∷ b ∷ c ∷ d ∷ [])) (after 1 (IrqEntry (number (a ∷ b ∷ c ∷ d ∷ []))) ∷ [])
+entered a b c d form = record {
+  commands = after 1 (IrqEntry (a ∷ b ∷ c ∷ d ∷ [])) ∷ [];
+  reads = record { whole = refl; sound = (plain _ (lit< tt) (lit< tt) (refl, form), tt); few = lit≤ tt };
   events = refl;
 }
 
@@ -141,20 +166,14 @@ cut-example = record {
   first = inr (λ p. omega arith, inr (λ p. omega arith, inr (λ p. omega arith, inl (lit< tt, refl))));
 }
 
-pub all-hold : All Holds cases
+pub all-hold : All IsSo cases
 all-hold = (
-  nines,
+  entered _ _ _ _ (padded-form 9999 (lit≤ tt)),
   (
-    refused-entry _ _ _ _ (torn (codes "3  3") 0 1 3 (lit< tt) (lit< tt) (lit< tt) refl refl refl),
+    entered _ _ _ _ blanks-after,
     (
-      refused-entry _ _ _ _ (between-blanks (codes " 33 ") 3 refl refl refl),
-      (
-        refused-entry _ _ _ _ (between-blanks (codes "    ") 3 refl refl refl),
-        (
-          whole-example,
-          (cut-example, tt),
-        ),
-      ),
+      refused-entry _ _ _ _ (torn (codes "3  3") 0 1 3 (lit< tt) (lit< tt) (lit< tt) refl refl refl),
+      (refused-entry _ _ _ _ (between-blanks (codes " 33 ") 3 refl refl refl), (refused-entry _ _ _ _ (between-blanks (codes "    ") 3 refl refl refl), (whole-example, (cut-example, tt)))),
     ),
   ),
 )

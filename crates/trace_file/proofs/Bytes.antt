@@ -1,4 +1,4 @@
--- Numbers in bytes, and the parts of a list that hold them. Assumes nothing.
+-- Numbers in bytes, and the parts of a list that hold them.
 use mathlib.Core.Path.{_≡_, refl, sym, ap, _∙_}
 use mathlib.Core.List.{List, [], _∷_}
 use Prim.Native.Nat.{ℕ, zero, suc, _+_, _*_, _/_, _%_, _^_, _≤_, _<_}

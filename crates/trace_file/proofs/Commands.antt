@@ -1,4 +1,4 @@
--- The command table, and the bytes of commands. Assumes nothing.
+-- The command table, and the bytes of commands.
 use mathlib.Core.Path.{_≡_, refl, sym, ap, subst, _∙_}
 use mathlib.Core.List.{List, [], _∷_, _++_}
 use Prim.Native.Nat.{ℕ, _+_, _^_, _≤_, _<_}

@@ -1,4 +1,4 @@
--- The characters of an identifier, as runs of one kind. Assumes nothing.
+-- The characters of an identifier, as runs of one kind.
 use mathlib.Core.Path.{_≡_, sym, ap, _∙_}
 use mathlib.Core.Logic.{_⊎_, inl, inr, ⊎-elim}
 use mathlib.Core.List.{List, [], _∷_}

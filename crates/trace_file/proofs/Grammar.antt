@@ -1,4 +1,4 @@
--- The commands of a file are determined by its bytes. Assumes nothing.
+-- The commands of a file are determined by its bytes.
 use mathlib.Core.Path.{_≡_, refl, sym, ap, subst, _∙_}
 use mathlib.Core.Logic.{⊎-elim}
 use mathlib.Core.List.{List, [], _∷_, _++_, append-assoc}

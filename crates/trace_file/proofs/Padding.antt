@@ -1,4 +1,4 @@
--- A number padded with zeros is an identifier that says that number. Assumes nothing.
+-- A number padded with zeros is an identifier that says that number.
 use mathlib.Core.Path.{_≡_, refl, ap, _∙_}
 use mathlib.Core.Logic.{inl}
 use mathlib.Core.List.{List, [], _∷_}

@@ -1,4 +1,4 @@
--- What the reader's steps say of a whole file. Assumes nothing.
+-- What the reader's steps say of a whole file.
 use mathlib.Core.Path.{_≡_, sym, ap, subst, _∙_}
 use mathlib.Core.List.{List, [], _∷_, _++_, append-assoc}
 use Prim.Native.Nat.{ℕ, _+_, _<_}

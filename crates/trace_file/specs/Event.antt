@@ -1,4 +1,4 @@
--- The command table. Assumes nothing.
+-- The command table.
 use mathlib.Core.List.{List}
 use Prim.Native.Nat.{ℕ}
 use lib.Chars.{codes}

@@ -1,4 +1,4 @@
--- The numbers that faults carry. Assumes nothing.
+-- The numbers that faults carry.
 use mathlib.Core.Path.{_≡_}
 use mathlib.Core.Logic.{_⊎_}
 use mathlib.Core.List.{List, [], _∷_, _++_}

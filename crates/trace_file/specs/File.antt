@@ -1,4 +1,4 @@
--- Trace files: the bytes of a command, what a file reads as, and what is refused of one. Assumes nothing.
+-- Trace files: the bytes of a command, what a file reads as, and what is refused of one.
 use mathlib.Core.Path.{_≡_}
 use mathlib.Core.Bool.{cond, _||_}
 use mathlib.Core.List.{List, [], _∷_, _++_, map}
@@ -19,8 +19,12 @@ use Rattle.trace_file.specs.Identifier.{Form, number, width}
 abbrev pub Command : Type 0
 Command = Timed (List ℕ)
 
+-- how many events a file may have, and how many bytes a program takes
 abbrev pub most-events : ℕ
 most-events = 1000000
+
+abbrev pub most-bytes : ℕ
+most-bytes = 65536
 
 -- a number in so many bytes, the lowest first, and the number that bytes so say
 abbrev pub little : ℕ → ℕ → List ℕ
@@ -49,7 +53,7 @@ Proper Nothing = Unit {0}
 Proper (Identifier cs) = (length cs ≡ width) × Form cs
 Proper (Thread t) = t < 2 ^ 16
 
--- a command that a file may hold
+-- a command that may stand in a file
 pub record Sound (c : Command) : Type 0 where
   pub ticks : 0 < c .gap
   pub fits : c .gap < 2 ^ 32
@@ -75,9 +79,9 @@ pub record FileOf (bs : List ℕ) (es : List (Timed ℕ)) : Type 0 where
 abbrev pub size : ℕ → ℕ
 size b = cond (eqb b 3) 9 (cond (eqb b 11 || eqb b 15) 7 5)
 
--- the number in the four bytes after the first
-abbrev pub word : List ℕ → ℕ
-word bs = from-little (take 4 (drop 1 bs))
+-- the number after the first byte of a command: an event's gap, or the end command's count
+abbrev pub argument : List ℕ → ℕ
+argument bs = from-little (take 4 (drop 1 bs))
 
 abbrev pub in-file : ℕ → ℕ → Parts
 in-file number place = record { layer = 1; number = number; ground = 0; place = place }
@@ -89,9 +93,9 @@ refusals n at bs =
     ∷ record { when = 15 < getD bs 0 0; gives = in-file 2 at }
     ∷ record { when = (0 < getD bs 0 0) × (most-events ≤ n); gives = in-file 10 at }
     ∷ record { when = length bs < size (getD bs 0 0); gives = in-file 1 at }
-    ∷ record { when = (0 < getD bs 0 0) × (word bs ≡ 0); gives = in-file 3 at }
+    ∷ record { when = (0 < getD bs 0 0) × (argument bs ≡ 0); gives = in-file 3 at }
     ∷ record { when = (getD bs 0 0 ≡ 3) × (Form (take width (drop 5 bs)) → ⊥); gives = in-file 4 at }
-    ∷ record { when = (getD bs 0 0 ≡ 0) × (word bs ≡ n → ⊥); gives = in-file 5 at }
+    ∷ record { when = (getD bs 0 0 ≡ 0) × (argument bs ≡ n → ⊥); gives = in-file 5 at }
     ∷ record { when = (getD bs 0 0 ≡ 0) × (5 < length bs); gives = in-file 6 (at + 5) }
     ∷ []
 

@@ -1,4 +1,4 @@
--- Interrupt identifiers: which characters are one, which number they say, and how the writer pads. Assumes nothing.
+-- Interrupt identifiers: which characters are one, which number they say, and how the writer pads.
 use mathlib.Core.Path.{_≡_}
 use mathlib.Core.Bool.{cond, _&&_}
 use mathlib.Core.Logic.{_⊎_}

@@ -1,4 +1,4 @@
--- What the reader does with each call. Assumes nothing.
+-- What the reader does with each call.
 use mathlib.Core.Path.{_≡_}
 use mathlib.Core.List.{List, [], _∷_, _++_}
 use Prim.Native.Nat.{ℕ, _+_, _<_, _≤_}

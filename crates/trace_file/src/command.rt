@@ -17,6 +17,9 @@ use crate::identifier::Identifier;
 // How many events a file may have.
 pub const MOST_EVENTS: u32 = 1_000_000;
 
+// The first byte of the end command.
+const END: u8 = 0x00;
+
 // How many bytes the command with this first byte has.
 fn size_of(byte: u8) -> Option<usize>
     ensures { λ r. ⌜ BySome r (15 < byte) (λ n. (byte ≤ 15) × (n ≡ size byte)) ⌝ }
@@ -106,7 +109,7 @@ pub(crate) fn command_at<'a>(
     let Some(size) = size_of(bytes[0]) else {
         return Err(Fault::in_file(Refusal::UnknownCommand, at));
     };
-    if bytes[0] == 0 {
+    if bytes[0] == END {
         end_at(bytes, at, events)?;
         return Ok(None);
     }

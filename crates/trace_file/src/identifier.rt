@@ -26,6 +26,7 @@ pub struct Identifier<'a> {
     pub number: u32,
 }
 
+// What a character can be to an identifier.
 #[derive(Clone, Copy, PartialEq)]
 pub enum Kind {
     Blank,

@@ -4,7 +4,7 @@ ghost use Prim.Native.Nat.{_<_, _≤_};
 ghost use lib.ListN.{length};
 ghost use Rattle.std.specs.Results.{Cases};
 ghost use Rattle.trace_file.specs.Fault.{parts};
-ghost use Rattle.trace_file.specs.File.{in-file};
+ghost use Rattle.trace_file.specs.File.{in-file, most-bytes};
 use crate::fault::Fault;
 use crate::fault::Refusal;
 
@@ -12,7 +12,7 @@ pub const MOST_BYTES: usize = 65_536;
 
 // Refuses what is longer, before any of it is read.
 pub fn limited(input: &[u8]) -> Result<(), Fault>
-    ensures { λ r. ⌜ Cases r (λ _. length (now (input .entry)) ≤ 65536) (λ f. (65536 < length (now (input .entry))) × (parts f ≡ in-file 16 0)) ⌝ }
+    ensures { λ r. ⌜ Cases r (λ _. length (now (input .entry)) ≤ most-bytes) (λ f. (most-bytes < length (now (input .entry))) × (parts f ≡ in-file 16 0)) ⌝ }
 {
     if input.len() > MOST_BYTES {
         return Err(Fault::in_file(Refusal::Oversize, 0));

@@ -2,19 +2,10 @@
 ghost use Prim.Native.Nat.{_+_, _^_, _<_};
 ghost use lib.ListN.{length};
 
+#[derive(Drop)]
 pub struct Reader<'a> {
     pub(crate) rest: &'a [u8],
     pub(crate) at: usize,
     pub(crate) events: u32,
     ghost within: { at + length (rest .now) < 2 ^ 64 },
-}
-
-impl Drop for Reader<'_> {
-    fn drop(self) {
-        let Reader {
-            rest: _,
-            at: _,
-            events: _,
-        } = self;
-    }
 }

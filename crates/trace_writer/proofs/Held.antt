@@ -1,4 +1,4 @@
--- What a writer's bytes hold, from one call to the next. Assumes nothing.
+-- What a writer's bytes hold, from one call to the next.
 use mathlib.Core.Path.{_≡_, refl, sym, ap, subst, fun-ext, _∙_}
 use mathlib.Core.List.{List, [], _∷_, _++_, map}
 use Prim.Native.Nat.{ℕ, _+_, _≤_, _<_}

@@ -1,4 +1,4 @@
--- Commands with their identifiers in the writer's padding. Assumes nothing.
+-- Commands with their identifiers in the writer's padding.
 use mathlib.Core.Path.{_≡_, refl, sym, ap, subst, fun-ext, _∙_}
 use mathlib.Core.Logic.{⊎-elim}
 use mathlib.Core.List.{List, [], _∷_, _++_, map, append-assoc}
@@ -9,7 +9,7 @@ use lib.ListN.{length, getD, take, length-append}
 use Rattle.std.specs.Joined.{joined}
 use Rattle.std.specs.shelf.Lists.{All}
 use Rattle.std.proofs.shelf.Elements.{all-map, all-weaker}
-use Rattle.std.proofs.shelf.Lists.{append-cancel-left, length-push, joined-more, map-push, getD-append-left, getD-append-right, length-map}
+use Rattle.std.proofs.shelf.Lists.{append-cancel-left, same-from-push, length-push, joined-more, map-push, getD-append-left, getD-append-right, length-map}
 use Rattle.std.proofs.shelf.Tests.{cases-lt}
 use Rattle.trace_file.specs.declared.event.Operand.{Operand}
 use Rattle.trace_file.specs.declared.event.Operand.the-variants.{Nothing, Identifier as Id, Thread}
@@ -27,7 +27,7 @@ use Rattle.trace_file.proofs.Runs.{one-more as read-more}
 use Rattle.trace_file.proofs.Padding.{padded-form, number-padded}
 use Rattle.trace_writer.specs.Writing.{written}
 use Rattle.trace_writer.proofs.Writes.{length-written, take-written, written-inside, written-again}
-use Rattle.trace_writer.specs.Tidying.{tidied, tidy-file, InIdentifier, HasTidied, over, Short, Among, IsTidy, Untidy, no-command, kept, changed}
+use Rattle.trace_writer.specs.Tidying.{tidied, tidy-file, InIdentifier, HasTidied, over, Short, Among, IsTidy, Untidy, no-command, kept, changed, Counted}
 
 proper : (o : Operand (List ℕ)) → Proper o → Proper (operand-with (λ cs. padded (number cs)) o)
 proper Nothing h = tt
@@ -148,8 +148,17 @@ module _ (file : List ℕ) (cs : List Command) (reads : Reads file cs) where
         tidy = subst (λ l. Reads l (map tidied cs)) (sym part) tidy-reads;
         back = λ es file-of. subst (λ l. FileOf l es) (sym part) (tidy-back es file-of);
         alone = λ k lt apart. ap (λ l. getD l k 0) bytes ∙ getD-append-left (tidy-file cs) _ 0 k (omega (arith, tidy-long)) ∙ tidy-alone k apart;
-        again = tidy-again ∙ sym part;
       }
+
+-- what was tidied stays as it is when it is tidied again
+pub stays : (file out after : List ℕ) (n : ℕ) → HasTidied file out n after → (out₂ : List ℕ) (m : ℕ) (again : List ℕ) → HasTidied (take n after) out₂ m again → again ≡ written out₂ 0 (take n after)
+stays file out after n first out₂ m again second =
+    let cs = first .commands in
+    let same = determined (take n after) (second .commands) (map tidied cs) (second .reads) (first .tidy) in
+    second .bytes ∙ ap (λ l. written out₂ 0 (tidy-file l)) same ∙ ap (written out₂ 0) (tidy-again file cs (first .reads) ∙ whole cs ∙ sym (first .tidy .whole))
+  where
+    whole : (cs : List Command) → tidy-file cs ≡ joined encoded (map tidied cs) ++ end-command (length (map tidied cs))
+    whole cs = ap (λ k. joined encoded (map tidied cs) ++ end-command k) (sym (length-map cs tidied))
 
 -- the output bytes after the first commands were tidied: those, and the rest of the file as it is
 pub record Halfway (file out : List ℕ) (cs : List Command) (r : Reader) (now : List ℕ) : Type 0 where
@@ -281,3 +290,22 @@ pub untidy-le : {cs : List Command} {n : ℕ} → Untidy cs n → n ≤ length c
 untidy-le no-command = omega arith
 untidy-le (kept {cs} {n} c u e) = omega (arith, untidy-le u, length-push cs c)
 untidy-le (changed {cs} {n} c u e) = omega (arith, untidy-le u, length-push cs c)
+
+none-changed : {cs : List Command} {n : ℕ} → Untidy cs n → n ≡ 0 → map tidied cs ≡ cs
+none-changed no-command e = refl
+none-changed (kept {cs} {n} c u same) e = map-push tidied cs c ∙ (λ i. none-changed u e i ++ same i ∷ [])
+none-changed (changed {cs} {n} c u apart) e = absurd (omega arith)
+
+all-kept : {cs : List Command} {n : ℕ} → Untidy cs n → map tidied cs ≡ cs → n ≡ 0
+all-kept no-command e = refl
+all-kept (kept {cs} {n} c u same) e = all-kept u (same-from-push (map tidied cs) cs (tidied c) c (sym (map-push tidied cs c) ∙ e) .0)
+all-kept (changed {cs} {n} c u apart) e = absurd (apart (same-from-push (map tidied cs) cs (tidied c) c (sym (map-push tidied cs c) ∙ e) .1))
+
+pub counted : (file : List ℕ) (cs : List Command) (n : ℕ) → Reads file cs → Untidy cs n → Counted file n
+counted file cs n reads u = record {
+  commands = cs;
+  reads = reads;
+  untidy = u;
+  none = λ e. ap (λ l. joined encoded l ++ end-command (length cs)) (none-changed u e) ∙ sym (reads .whole);
+  tidy = λ e. all-kept u (determined file (map tidied cs) cs (subst (λ l. Reads l (map tidied cs)) e (tidy-reads file cs reads)) reads);
+}

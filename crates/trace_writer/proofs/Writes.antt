@@ -1,4 +1,4 @@
--- Bytes written after one another, and the bytes of a command. Assumes nothing.
+-- Bytes written after one another, and the bytes of a command.
 use mathlib.Core.Path.{_≡_, refl, sym, ap, _∙_}
 use mathlib.Core.List.{List, [], _∷_, _++_, append-assoc}
 use Prim.Native.Nat.{ℕ, _+_, _/_, _%_, _≤_}

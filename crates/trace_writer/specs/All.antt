@@ -1,4 +1,4 @@
--- What is written of events that are given all at once. Assumes nothing.
+-- What is written of events that are given all at once.
 use mathlib.Core.Path.{_≡_}
 use mathlib.Core.Logic.{_⊎_}
 use mathlib.Core.List.{List, _∷_, _++_}

@@ -1,4 +1,4 @@
--- What an open writer does with each call. Assumes nothing.
+-- What an open writer does with each call.
 use mathlib.Core.Path.{_≡_}
 use mathlib.Core.List.{List, [], _∷_, _++_}
 use Prim.Native.Nat.{ℕ, _+_, _≤_}
@@ -35,9 +35,9 @@ Put w out e (Ok n) v after = HasPut w out e n v after
 Put w out e (Err f) v after = First (put-refusals (w .events) (w .at) (length out) e) (parts f) × (v ≡ w) × (after ≡ out)
 
 -- what a call of `put` makes of the events that the bytes hold
-abbrev pub Puts : List (Timed ℕ) → Timed ℕ → Result ℕ Fault → Writer → List ℕ → Type 0
-Puts es e (Ok n) v after = Holds v after (es ++ e ∷ [])
-Puts es e (Err f) v after = Holds v after es
+abbrev pub AfterPut : List (Timed ℕ) → Timed ℕ → Result ℕ Fault → Writer → List ℕ → Type 0
+AfterPut es e (Ok n) v after = Holds v after (es ++ e ∷ [])
+AfterPut es e (Err f) v after = Holds v after es
 
 -- the end command was written: the output bytes, all of them, afterwards
 pub record HasClosed (w : Writer) (out : List ℕ) (n : ℕ) (after : List ℕ) : Type 0 where
@@ -50,6 +50,6 @@ Closed w out (Ok n) after = HasClosed w out n after
 Closed w out (Err u) after = First (close-refusals (w .at) (length out)) (parts (u .fault)) × (u .writer ≡ w) × (after ≡ out)
 
 -- what a call of `close` makes of the events that the bytes hold
-abbrev pub Closes : List (Timed ℕ) → Result ℕ Unclosed → List ℕ → Type 0
-Closes es (Ok n) after = FileOf (take n after) es
-Closes es (Err u) after = Holds (u .writer) after es
+abbrev pub AfterClose : List (Timed ℕ) → Result ℕ Unclosed → List ℕ → Type 0
+AfterClose es (Ok n) after = FileOf (take n after) es
+AfterClose es (Err u) after = Holds (u .writer) after es

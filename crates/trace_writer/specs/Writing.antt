@@ -1,4 +1,4 @@
--- What is written of events, and what of them is refused. Assumes nothing.
+-- What is written of events, and what of them is refused.
 use mathlib.Core.Path.{_≡_}
 use mathlib.Core.List.{List, [], _∷_, _++_, map}
 use Prim.Native.Nat.{ℕ, _+_, _^_, _<_, _≤_}

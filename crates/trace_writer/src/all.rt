@@ -31,17 +31,15 @@ fn admit_all(events: &[Timed<u32>], room: usize) -> Result<usize, Fault>
     Ok(at)
 }
 
-// Writes the events from the start on, and says how many bytes they take.
-fn put_all(events: &[Timed<u32>], out: &mut [u8]) -> usize
+// Writes the events from the start on.
+fn put_all(events: &[Timed<u32>], out: &mut [u8])
     requires { ⌜ Fitting (length (now out)) (now events) ⌝ }
-    ensures bytes { λ _. ⌜ now (out .exit) ≡ written (now (out .entry)) 0 (bytes-of (now (events .entry))) ⌝ }
-    ensures size { λ r. ⌜ r ≡ length (bytes-of (now (events .entry))) ⌝ }
+    ensures { λ _. ⌜ now (out .exit) ≡ written (now (out .entry)) 0 (bytes-of (now (events .entry))) ⌝ }
 {
     let mut at = 0;
     for timed in events {
         at += write(out, at, timed.gap, timed.event);
     }
-    at
 }
 
 // Puts the events and closes. Answers how many bytes the file has.

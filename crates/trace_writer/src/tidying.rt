@@ -1,12 +1,11 @@
 // Writes a file again with every identifier in the writer's padding.
 ghost use mathlib.Core.Path.{_≡_};
-ghost use mathlib.Core.List.{List};
 ghost use Rattle.std.specs.Orderings.{Decides};
 ghost use Rattle.std.specs.Results.{Cases};
 ghost use Rattle.trace_file.specs.Event.{command};
 ghost use Rattle.trace_file.specs.Fault.{parts};
-ghost use Rattle.trace_file.specs.File.{Command, Reads, Refuses};
-ghost use Rattle.trace_writer.specs.Tidying.{Tidies, over, Short, Among, IsTidy, Untidy};
+ghost use Rattle.trace_file.specs.File.{Refuses};
+ghost use Rattle.trace_writer.specs.Tidying.{Tidies, Stays, over, Short, Among, IsTidy, Counted};
 use crate::admission::refused;
 use crate::bytes::copy;
 use crate::bytes::digits;
@@ -44,7 +43,8 @@ fn is_tidy(event: Event<Identifier<'_>>) -> bool
 
 // Writes the file again, of equal length. Answers how many bytes that are.
 pub fn tidy(file: &[u8], out: &mut [u8]) -> Result<usize, Fault>
-    ensures { λ r. ⌜ Tidies (now (file .entry)) (now (out .entry)) r (now (out .exit)) ⌝ }
+    ensures outcome { λ r. ⌜ Tidies (now (file .entry)) (now (out .entry)) r (now (out .exit)) ⌝ }
+    ensures stays { λ r. ⌜ Stays r (now (out .exit)) ⌝ }
 {
     check(file)?;
     if out.len() < file.len() {
@@ -60,7 +60,7 @@ pub fn tidy(file: &[u8], out: &mut [u8]) -> Result<usize, Fault>
 
 // How many identifiers of a file `tidy` would change.
 pub fn untidy(file: &[u8]) -> Result<u32, Fault>
-    ensures { λ r. ⌜ Cases r (λ n. (cs : List Command) × Reads (now (file .entry)) cs × Untidy cs n) (λ f. Refuses (now (file .entry)) (parts f)) ⌝ }
+    ensures { λ r. ⌜ Cases r (Counted (now (file .entry))) (λ f. Refuses (now (file .entry)) (parts f)) ⌝ }
 {
     let mut reader = Reader::new(file);
     let mut count = 0;

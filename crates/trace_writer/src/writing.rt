@@ -1,9 +1,9 @@
-// Puts events into output bytes, one after another.
+// AfterPut events into output bytes, one after another.
 ghost use mathlib.Core.Path.{_≡_};
 ghost use mathlib.Core.List.{List, []};
 ghost use Prim.Native.Nat.{ℕ};
 ghost use Rattle.trace_file.specs.declared.event.Timed.{Timed};
-ghost use Rattle.trace_writer.specs.Putting.{Holds, Put, Puts, Closed, Closes};
+ghost use Rattle.trace_writer.specs.Putting.{Holds, Put, AfterPut, Closed, AfterClose};
 use crate::admission::admit;
 use crate::admission::refused;
 use crate::bytes::write;
@@ -25,7 +25,7 @@ impl Writer {
     // Writes an event, its identifier by its number, after those before it. Answers how many there are.
     pub fn put(&mut self, out: &mut [u8], gap: u32, event: Event<u32>) -> Result<u32, Fault>
         ensures outcome { λ r. ⌜ Put (now (self .entry)) (now (out .entry)) (record { gap = gap; event = event }) r (now (self .exit)) (now (out .exit)) ⌝ }
-        ensures law { λ r. ⌜ ((es : List (Timed ℕ)) → Holds (now (self .entry)) (now (out .entry)) es → Puts es (record { gap = gap; event = event }) r (now (self .exit)) (now (out .exit))) ⌝ }
+        ensures law { λ r. ⌜ ((es : List (Timed ℕ)) → Holds (now (self .entry)) (now (out .entry)) es → AfterPut es (record { gap = gap; event = event }) r (now (self .exit)) (now (out .exit))) ⌝ }
     {
         admit(self.events, self.at, out.len(), gap, event)?;
         self.at += write(out, self.at, gap, event);
@@ -36,7 +36,7 @@ impl Writer {
     // Writes the end command. Answers how many bytes the file has, or hands the open writer back.
     pub fn close(self, out: &mut [u8]) -> Result<usize, Unclosed>
         ensures outcome { λ r. ⌜ Closed self (now (out .entry)) r (now (out .exit)) ⌝ }
-        ensures law { λ r. ⌜ ((es : List (Timed ℕ)) → Holds self (now (out .entry)) es → Closes es r (now (out .exit))) ⌝ }
+        ensures law { λ r. ⌜ ((es : List (Timed ℕ)) → Holds self (now (out .entry)) es → AfterClose es r (now (out .exit))) ⌝ }
     {
         let at = self.at;
         if out.len() < at || out.len() - at < 5 {

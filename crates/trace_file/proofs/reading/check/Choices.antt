@@ -4,8 +4,8 @@ use Rattle.trace_file.specs.File.{Command}
 use Rattle.trace_file.specs.Reading.{HasRead}
 use Rattle.trace_file.proofs.reading.check.Given as given
 
-abbrev pub Inv-loop-reader : given.InvT-loop-reader
-Inv-loop-reader l = (cs : List Command) × HasRead (l .file) cs (l .reader)
+abbrev pub Inv-loop : given.InvT-loop
+Inv-loop l = (cs : List Command) × HasRead (l .file) cs (l .reader)
 
-abbrev pub μ-loop-reader : given.MeasureT-loop-reader
-μ-loop-reader l = length (l .reader .rest .now)
+abbrev pub μ-loop : given.MeasureT-loop
+μ-loop l = length (l .reader .rest .now)

@@ -42,10 +42,4 @@ loop-timed-again c =
     )
 
 pub returns : need.returns
-returns c =
-    let all = take-all _ _ (c .loop-timed-test .left) in
-    let inv = c .loop-timed .inv in
-    record {
-      bytes = inv .0 ∙ ap (λ l. written (c .args .out .now) 0 (bytes-of l)) all;
-      size = inv .1 ∙ ap (λ l. length (bytes-of l)) all;
-    }
+returns c = c .loop-timed .inv .0 ∙ ap (λ l. written (c .args .out .now) 0 (bytes-of l)) (take-all _ _ (c .loop-timed-test .left))
