@@ -38,10 +38,10 @@ pub record Writable (e : Timed ℕ) : Type 0 where
   pub operand : Small (command (e .event) .1)
 
 -- an identifier too great to be written
-abbrev pub Great : Operand ℕ → Type 0
-Great Nothing = ⊥
-Great (Identifier n) = greatest < n
-Great (Thread t) = ⊥
+abbrev pub TooGreat : Operand ℕ → Type 0
+TooGreat Nothing = ⊥
+TooGreat (Identifier n) = greatest < n
+TooGreat (Thread t) = ⊥
 
 abbrev pub in-writer : ℕ → ℕ → Parts
 in-writer number place = record { layer = 5; number = number; ground = 0; place = place }
@@ -51,7 +51,7 @@ abbrev pub put-refusals : ℕ → ℕ → ℕ → Timed ℕ → List Rule
 put-refusals n at room e =
     record { when = most-events ≤ n; gives = in-writer 10 at }
     ∷ record { when = e .gap ≡ 0; gives = in-writer 3 at }
-    ∷ record { when = Great (command (e .event) .1); gives = in-writer 4 at }
+    ∷ record { when = TooGreat (command (e .event) .1); gives = in-writer 4 at }
     ∷ record { when = room < at + length (encoded (command-for e)); gives = in-writer 15 at }
     ∷ []
 

@@ -9,10 +9,10 @@ ghost use Rattle.trace_file.specs.Event.{operand-with};
 ghost use Rattle.trace_file.specs.Fault.{First, parts};
 ghost use Rattle.trace_file.specs.File.{operand-bytes};
 ghost use Rattle.trace_file.specs.Identifier.{padded};
-ghost use Rattle.trace_writer.specs.Writing.{Small, Great, Admitted, put-refusals};
+ghost use Rattle.trace_writer.specs.Writing.{Small, TooGreat, Admitted, put-refusals};
 use trace_file::MOST_EVENTS;
-use trace_file::event::Event;
 use trace_file::event::Operand;
+use trace_file::event::Timed;
 use trace_file::fault::Fault;
 use trace_file::fault::Layer;
 use trace_file::fault::Refusal;
@@ -31,7 +31,7 @@ pub(crate) fn refused(refusal: Refusal, at: usize) -> Fault
 
 // How many bytes a command with this operand has, if the operand can be written.
 fn size_with(operand: Operand<u32>) -> Option<usize>
-    ensures { λ r. ⌜ BySome r (Great operand) (λ k. Small operand × (k ≡ 5 + length (operand-bytes (operand-with padded operand)))) ⌝ }
+    ensures { λ r. ⌜ BySome r (TooGreat operand) (λ k. Small operand × (k ≡ 5 + length (operand-bytes (operand-with padded operand)))) ⌝ }
 {
     match operand {
         Operand::Nothing => Some(5),
@@ -45,23 +45,17 @@ fn size_with(operand: Operand<u32>) -> Option<usize>
     }
 }
 
-// How many bytes an event takes, if it can be put after so many events and bytes where there are `room` bytes.
-pub(crate) fn admit(
-    events: u32,
-    at: usize,
-    room: usize,
-    gap: u32,
-    event: Event<u32>,
-) -> Result<usize, Fault>
-    ensures { λ r. ⌜ Cases r (Admitted events at room (record { gap = gap; event = event })) (λ f. First (put-refusals events at room (record { gap = gap; event = event })) (parts f)) ⌝ }
+// How many bytes an event takes, if it can be put after so many events and bytes, where there are `room` bytes.
+pub(crate) fn admit(timed: Timed<u32>, events: u32, at: usize, room: usize) -> Result<usize, Fault>
+    ensures { λ r. ⌜ Cases r (Admitted events at room timed) (λ f. First (put-refusals events at room timed) (parts f)) ⌝ }
 {
     if events >= MOST_EVENTS {
         return Err(refused(Refusal::TooMany, at));
     }
-    if gap == 0 {
+    if timed.gap == 0 {
         return Err(refused(Refusal::StuckClock, at));
     }
-    let (_, operand) = event.command();
+    let (_, operand) = timed.event.command();
     let Some(size) = size_with(operand) else {
         return Err(refused(Refusal::BadIdentifier, at));
     };

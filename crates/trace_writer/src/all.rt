@@ -22,7 +22,7 @@ fn admit_all(events: &[Timed<u32>], room: usize) -> Result<usize, Fault>
     let mut at = 0;
     let mut count = 0;
     for timed in events {
-        at += admit(count, at, room, timed.gap, timed.event)?;
+        at += admit(*timed, count, at, room)?;
         count += 1;
     }
     if room - at < 5 {
@@ -38,7 +38,7 @@ fn put_all(events: &[Timed<u32>], out: &mut [u8])
 {
     let mut at = 0;
     for timed in events {
-        at += write(out, at, timed.gap, timed.event);
+        at += write(out, at, *timed);
     }
 }
 

@@ -6,8 +6,8 @@ ghost use Rattle.trace_file.specs.Event.{command, operand-with};
 ghost use Rattle.trace_file.specs.File.{encoded, operand-bytes, end-command};
 ghost use Rattle.trace_file.specs.Identifier.{padded, greatest};
 ghost use Rattle.trace_writer.specs.Writing.{written, Small, command-for};
-use trace_file::event::Event;
 use trace_file::event::Operand;
+use trace_file::event::Timed;
 
 // The four digits of an identifier's number.
 pub(crate) fn digits(number: u32) -> [u8; 4]
@@ -51,15 +51,15 @@ fn write_operand(out: &mut [u8], at: usize, operand: Operand<u32>) -> usize
 }
 
 // Writes an event command from a place on, and says how many bytes it has.
-pub(crate) fn write(out: &mut [u8], at: usize, gap: u32, event: Event<u32>) -> usize
-    requires small { ⌜ Small (command event .1) ⌝ }
-    requires room { ⌜ at + length (encoded (command-for (record { gap = gap; event = event }))) ≤ length (now out) ⌝ }
-    ensures bytes { λ _. ⌜ now (out .exit) ≡ written (now (out .entry)) at (encoded (command-for (record { gap = gap; event = event }))) ⌝ }
-    ensures size { λ r. ⌜ r ≡ length (encoded (command-for (record { gap = gap; event = event }))) ⌝ }
+pub(crate) fn write(out: &mut [u8], at: usize, timed: Timed<u32>) -> usize
+    requires small { ⌜ Small (command (timed .event) .1) ⌝ }
+    requires room { ⌜ at + length (encoded (command-for timed)) ≤ length (now out) ⌝ }
+    ensures bytes { λ _. ⌜ now (out .exit) ≡ written (now (out .entry)) at (encoded (command-for timed)) ⌝ }
+    ensures size { λ r. ⌜ r ≡ length (encoded (command-for timed)) ⌝ }
 {
-    let (byte, operand) = event.command();
+    let (byte, operand) = timed.event.command();
     copy(out, at, &[byte]);
-    copy(out, at + 1, &gap.to_le_bytes());
+    copy(out, at + 1, &timed.gap.to_le_bytes());
     5 + write_operand(out, at + 5, operand)
 }
 

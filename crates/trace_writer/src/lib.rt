@@ -4,7 +4,6 @@ mod all;
 mod bytes;
 mod tidying;
 pub mod writer;
-mod writing;
 
 pub use all::write_all;
 pub use tidying::tidy;

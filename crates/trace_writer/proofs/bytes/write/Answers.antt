@@ -8,7 +8,7 @@ use Rattle.trace_writer.proofs.bytes.write.Needs as need
 
 pub returns : need.returns
 returns c =
-    let gap = c .args .gap in
+    let gap = c .args .timed .gap in
     let is = c .command-byte .ensures in
     let four = c .copy-2 .ensures ∙ ap (written (c .copy .last .out) (c .args .at + 1)) (c .to-le-bytes .ensures ∙ little-four gap) in
     record {
