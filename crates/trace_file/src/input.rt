@@ -10,7 +10,7 @@ use crate::fault::Refusal;
 
 pub const MOST_BYTES: usize = 65_536;
 
-// Refuses what is longer, before any of it is read.
+// Refuses what is longer, before any command of it is looked at.
 pub fn limited(input: &[u8]) -> Result<(), Fault>
     ensures { λ r. ⌜ Cases r (λ _. length (now (input .entry)) ≤ most-bytes) (λ f. (most-bytes < length (now (input .entry))) × (parts f ≡ in-file 16 0)) ⌝ }
 {

@@ -21,9 +21,6 @@ pub record Sofar (room : ℕ) (es : List (Timed ℕ)) (i k : ℕ) : Type 0 where
   pub fitting : Fitting room (take i es)
   pub size : k ≡ length (bytes-of (take i es))
 
-pub none-yet : (room : ℕ) (es : List (Timed ℕ)) → Sofar room es 0 0
-none-yet room es = record { fitting = record { writable = tt; few = omega arith; fits = omega arith }; size = refl }
-
 bytes-append : (xs ys : List (Timed ℕ)) → bytes-of (xs ++ ys) ≡ bytes-of xs ++ bytes-of ys
 bytes-append [] ys = refl
 bytes-append (x ∷ xs) ys = ap (λ l. encoded (command-for x) ++ l) (bytes-append xs ys) ∙ sym (append-assoc (encoded (command-for x)) (bytes-of xs) (bytes-of ys))

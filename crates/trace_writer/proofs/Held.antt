@@ -19,7 +19,7 @@ use Rattle.trace_file.proofs.Commands.{command-with, with-with, with-same}
 use Rattle.trace_file.proofs.Padding.{padded-form, number-padded}
 use Rattle.trace_writer.specs.declared.writer.Writer.{Writer}
 use Rattle.trace_writer.specs.Putting.{Holds}
-use Rattle.trace_writer.specs.Writing.{written, command-for, Small, Writable, Admitted}
+use Rattle.trace_writer.specs.Writing.{written, command-for, bytes-of, Small, Writable, Admitted}
 use Rattle.trace_writer.proofs.Writes.{length-written, take-written}
 
 proper : (o : Operand ℕ) → Small o → Proper (operand-with padded o)
@@ -49,15 +49,15 @@ pub all-meant : (es : List (Timed ℕ)) → map meant (map command-for es) ≡ e
 all-meant [] = refl
 all-meant (e ∷ es) = λ i. meant-for e i ∷ all-meant es i
 
-pub joined-push : (es : List (Timed ℕ)) (e : Timed ℕ) → joined encoded (map command-for es) ++ encoded (command-for e) ≡ joined encoded (map command-for (es ++ e ∷ []))
+pub joined-push : (es : List (Timed ℕ)) (e : Timed ℕ) → bytes-of es ++ encoded (command-for e) ≡ bytes-of (es ++ e ∷ [])
 joined-push es e = joined-more encoded [] (map command-for es) (command-for e) ∙ ap (joined encoded) (sym (map-push command-for es e))
 
 -- the commands of some events and the end command are a file of these events
-pub file-of : (es : List (Timed ℕ)) → All Writable es → length es ≤ most-events → FileOf (joined encoded (map command-for es) ++ end-command (length es)) es
+pub file-of : (es : List (Timed ℕ)) → All Writable es → length es ≤ most-events → FileOf (bytes-of es ++ end-command (length es)) es
 file-of es h few = record {
   commands = map command-for es;
   reads = record {
-    whole = ap (λ n. joined encoded (map command-for es) ++ end-command n) (sym (length-map es command-for));
+    whole = ap (λ n. bytes-of es ++ end-command n) (sym (length-map es command-for));
     sound = all-sound es h;
     few = simp length-map few;
   };
@@ -80,5 +80,5 @@ module _ (w : Writer) (out : List ℕ) (es : List (Timed ℕ)) (holds : Holds w 
 
   pub closed-held : FileOf (take (w .at + 5) (written out (w .at) (end-command (w .events)))) es
   closed-held =
-      let bytes = take-written out (w .at) (end-command (w .events)) (holds .within) ∙ ap (λ l. l ++ end-command (w .events)) (holds .bytes) ∙ ap (λ n. joined encoded (map command-for es) ++ end-command n) (holds .events) in
+      let bytes = take-written out (w .at) (end-command (w .events)) (holds .within) ∙ ap (λ l. l ++ end-command (w .events)) (holds .bytes) ∙ ap (λ n. bytes-of es ++ end-command n) (holds .events) in
       subst (λ bs. FileOf bs es) (sym bytes) (file-of es (holds .writable) (holds .few))

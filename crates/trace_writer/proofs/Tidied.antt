@@ -155,10 +155,7 @@ pub stays : (file out after : List ℕ) (n : ℕ) → HasTidied file out n after
 stays file out after n first out₂ m again second =
     let cs = first .commands in
     let same = determined (take n after) (second .commands) (map tidied cs) (second .reads) (first .tidy) in
-    second .bytes ∙ ap (λ l. written out₂ 0 (tidy-file l)) same ∙ ap (written out₂ 0) (tidy-again file cs (first .reads) ∙ whole cs ∙ sym (first .tidy .whole))
-  where
-    whole : (cs : List Command) → tidy-file cs ≡ joined encoded (map tidied cs) ++ end-command (length (map tidied cs))
-    whole cs = ap (λ k. joined encoded (map tidied cs) ++ end-command k) (sym (length-map cs tidied))
+    second .bytes ∙ ap (λ l. written out₂ 0 (tidy-file l)) same ∙ ap (written out₂ 0) (tidy-again file cs (first .reads) ∙ tidy-reads file cs (first .reads) .whole ∙ sym (first .tidy .whole))
 
 -- the output bytes after the first commands were tidied: those, and the rest of the file as it is
 pub record Halfway (file out : List ℕ) (cs : List Command) (r : Reader) (now : List ℕ) : Type 0 where
