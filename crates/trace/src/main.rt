@@ -1,4 +1,5 @@
 // trace: looks at a trace on standard input, says what is wrong with it, and tidies it.
+#![tactic(auto)]
 #[cfg(test)]
 mod cases;
 mod jobs;

@@ -1,7 +1,7 @@
 -- The definitions give what each case says.
 use Rattle.std.proofs.Common.{◌≡◌, ℕ, zero, suc, ◌+◌, ◌^◌, ◌<◌, ◌≤◌, List, [], ◌∷◌, length, get_or, take, codes, refl, inl, inr, ⊎_elim, arith, lit<, lit≤}
 use Rattle.std.proofs.lemmas.Bool.{cases_lt}
-use Rattle.std.specs.List.{AllByRecursion as All}
+use Rattle.std.specs.List.{AllByRecursion}
 use Rattle.trace_file.specs.declared.event.Event.TheVariants.{IrqEntry}
 use Rattle.trace_file.specs.declared.identifier.Kind.{Kind}
 use Rattle.trace_file.specs.declared.identifier.Kind.TheVariants.{Blank, Digit}
@@ -66,7 +66,7 @@ two_blanks = record {
     digits (suc (suc (suc zero))) le lt = refl
     digits (suc (suc (suc (suc k)))) le lt = absurd (omega arith)
 
-example_sound : All Sound example
+example_sound : AllByRecursion Sound example
 example_sound = (
   plain _ (lit< tt) (lit< tt) tt,
   (
@@ -159,7 +159,7 @@ cut_example = record {
   first = inr (λ p. omega arith, inr (λ p. omega arith, inr (λ p. omega arith, inl (lit< tt, refl))));
 }
 
-pub all_hold : All IsSo cases
+pub all_hold : AllByRecursion IsSo cases
 all_hold = (
   entered _ _ _ _ (padded_form 9999 (lit≤ tt)),
   (

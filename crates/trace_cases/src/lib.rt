@@ -1,4 +1,5 @@
 // Cases of reading and writing trace files: some shown of the definitions, the others run.
+#![tactic(auto)]
 #[cfg(test)]
 mod all;
 #[cfg(test)]

@@ -1,7 +1,7 @@
 -- Numbers in bytes, and the parts of a list that hold them.
 use Rattle.std.proofs.Common.{◌≡◌, ℕ, zero, suc, ◌+◌, ◌*◌, ◌/◌, ◌%◌, ◌^◌, ◌<◌, ◌≤◌, List, [], ◌∷◌, length, get_or, take, drop, sym, refl, ap, ◌∙◌, mod-eq_of_lt, div-lt_iff_lt-mul, add_comm, pow-suc, zero-add, arith, lit<}
 use native.Mathlib.Nat.{add-mul-mod_self_left, add-mul-div_left, div-eq_of_lt, div-add-mod}
-use Rattle.std.specs.List.{AllByRecursion as All}
+use Rattle.std.specs.List.{AllByRecursion}
 use Rattle.std.proofs.lemmas.List.{drop_more}
 use Rattle.trace_file.specs.File.{little, from_little}
 use Rattle.trace_file.specs.Reading.{Stands}
@@ -22,7 +22,7 @@ take_four xs i h =
     ∙ ap (λ l. get_or xs (i + 2) 0 ∷ l) (ap (λ j. take 1 (drop j xs)) q ∙ take_next xs (i + 3) 0 0 (omega arith))))
 
 -- bytes are what is written of the number that they say
-pub little_from : (bs : List ℕ) → All (λ b. b < 256) bs → little (length bs) (from_little bs) ≡ bs
+pub little_from : (bs : List ℕ) → AllByRecursion (λ b. b < 256) bs → little (length bs) (from_little bs) ≡ bs
 little_from [] h = refl
 little_from (b ∷ bs) h =
     let n : ℕ = from_little bs in
@@ -41,7 +41,7 @@ pub length-little : (k n : ℕ) → length (little k n) ≡ k
 length-little zero n = refl
 length-little (suc k) n = ap suc (length-little k (n / 256))
 
-pub stands : (n : ℕ) (bs rest : List ℕ) → take (length bs) rest ≡ bs → All (λ b. b < 256) bs → n ≡ from_little bs → Stands (length bs) n rest
+pub stands : (n : ℕ) (bs rest : List ℕ) → take (length bs) rest ≡ bs → AllByRecursion (λ b. b < 256) bs → n ≡ from_little bs → Stands (length bs) n rest
 stands n bs rest front small e = record {
   says = e ∙ ap from_little (sym front);
   bytes = ap (little (length bs)) e ∙ little_from bs small ∙ sym front;

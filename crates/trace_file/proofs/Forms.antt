@@ -1,7 +1,7 @@
 -- The characters of an identifier, as runs of one kind.
 use Rattle.std.proofs.Common.{◌≡◌, ℕ, ◌+◌, ◌-◌, ◌*◌, ◌^◌, ◌<◌, ◌≤◌, cond, eqb, leb, ◌⊎◌, List, [], ◌∷◌, length, get_or, drop, sym, ap, ◌∙◌, inl, inr, ⊎_elim, mul-le-mul_right, mul_assoc, pow-suc, add-one, arith}
 use native.Mathlib.Nat.{pow-succ'}
-use Rattle.std.specs.List.{AllByRecursion as All}
+use Rattle.std.specs.List.{AllByRecursion}
 use Rattle.std.proofs.ByRecursion.{All-from_get_or}
 use Rattle.std.proofs.lemmas.List.{at_drop_more, at_drop_all}
 use Rattle.std.proofs.lemmas.Bool.{cases_eq, cases_order, cases_lt, ne_eqb, eq-eqb, lt-leb, and_right, cond-true, cond-false}
@@ -89,7 +89,7 @@ pub said_all : (cs : List ℕ) (i n : ℕ) → Said cs i n → length cs ≤ i �
 said_all cs i n said le = sym (at_drop_all (number_after n) cs i le) ∙ said.rest
 
 -- digits say less than one more than there is room for
-below_room : (cs : List ℕ) (n : ℕ) → All (λ c. kind c ≡ Other → ⊥) cs → number_after n cs < (n + 1) * 10 ^ length cs
+below_room : (cs : List ℕ) (n : ℕ) → AllByRecursion (λ c. kind c ≡ Other → ⊥) cs → number_after n cs < (n + 1) * 10 ^ length cs
 below_room [] n h = omega arith
 below_room (c ∷ cs) n h =
     let m : ℕ = cond (eqb c 32) n (n * 10 + (c - 48)) in

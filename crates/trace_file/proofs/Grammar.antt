@@ -1,6 +1,6 @@
 -- The commands of a file are determined by its bytes.
 use Rattle.std.proofs.Common.{◌≡◌, ℕ, suc, ◌+◌, ◌<◌, ◌≤◌, List, [], ◌∷◌, ◌++◌, length, take, drop, sym, refl, ap, ◌∙◌, subst, ⊎_elim, append_assoc, zero-add, arith, lit<, lit≤, length-append}
-use Rattle.std.specs.List.{flat_map, AllByRecursion as All}
+use Rattle.std.specs.List.{flat_map, AllByRecursion}
 use Rattle.std.proofs.lemmas.List.{take_at, drop_at}
 use Rattle.trace_file.specs.declared.event.Event.{Event}
 use Rattle.trace_file.specs.declared.event.Event.TheVariants.{NmiEntry, NmiExit, IrqEntry, IrqExit, LocalIrqDisable, LocalIrqEnable, PreemptDisable, PreemptEnable, PreemptDisableSched, ScheduleEntry, SchedSwitch, ScheduleExit, PreemptEnableSched, NeedResched, SchedWaking}
@@ -143,7 +143,7 @@ refused_stuck : (n at : ℕ) (r : List ℕ) (p : Parts) → First (refusals n at
 refused_stuck n at r p f d t h few e =
     none_first (refusals n at (encoded d ++ t)) p (sound_passes n at d t h few) (subst (λ x. First (refusals n at x) p) e f)
 
-same_run : (cs ds : List Command) (n : ℕ) (r s : List ℕ) → All Sound cs → All Sound ds → n + length cs ≤ most_events → n + length ds ≤ most_events → Stuck (n + length cs) r → Stuck (n + length ds) s → flat_map encoded cs ++ r ≡ flat_map encoded ds ++ s → (cs ≡ ds) × (r ≡ s)
+same_run : (cs ds : List Command) (n : ℕ) (r s : List ℕ) → AllByRecursion Sound cs → AllByRecursion Sound ds → n + length cs ≤ most_events → n + length ds ≤ most_events → Stuck (n + length cs) r → Stuck (n + length ds) s → flat_map encoded cs ++ r ≡ flat_map encoded ds ++ s → (cs ≡ ds) × (r ≡ s)
 same_run [] [] n r s hc hd fc fd x y e = (refl, e)
 same_run [] (d ∷ ds) n r s hc hd fc fd x y e = absurd (x d (flat_map encoded ds ++ s) hd.0 (omega arith) (e ∙ append_assoc (encoded d) (flat_map encoded ds) s))
 same_run (c ∷ cs) [] n r s hc hd fc fd x y e = absurd (y c (flat_map encoded cs ++ r) hc.0 (omega arith) (sym e ∙ append_assoc (encoded c) (flat_map encoded cs) r))

@@ -90,13 +90,12 @@ refusal_ground NoBound = 0
 refusal_ground NoSpace = 0
 refusal_ground Oversize = 0
 
+-- the parts that are these four numbers
+abbrev pub four_numbers : (layer : ℕ) (number : ℕ) (ground : ℕ) (place : ℕ) → Parts
+four_numbers layer number ground place = record { layer = layer; number = number; ground = ground; place = place }
+
 abbrev pub parts : Fault → Parts
-parts f = record {
-  layer = layer_number f.layer;
-  number = refusal_number f.refusal;
-  ground = refusal_ground f.refusal;
-  place = f.place;
-}
+parts f = four_numbers (layer_number f.layer) (refusal_number f.refusal) (refusal_ground f.refusal) f.place
 
 -- how a fault is written: a word and the four numbers, with commas
 abbrev pub line_of : Parts → List ℕ

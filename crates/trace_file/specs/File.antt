@@ -1,12 +1,12 @@
 -- Trace files: the bytes of a command, what a file reads as, and what is refused of one.
 use Rattle.std.specs.Prelude.{◌≡◌, ℕ, zero, suc, ◌+◌, ◌*◌, ◌/◌, ◌%◌, ◌^◌, ◌<◌, ◌≤◌, cond, ◌||◌, List, [], ◌∷◌, ◌++◌, map, length, take, drop, ◌==◌, ◌≢◌, slice_index}
-use Rattle.std.specs.List.{flat_map, AllByRecursion as All}
+use Rattle.std.specs.List.{flat_map, AllByRecursion}
 use Rattle.trace_file.specs.declared.event.Operand.{Operand}
 use Rattle.trace_file.specs.declared.event.Operand.TheVariants.{Nothing, Identifier, Thread}
 use Rattle.trace_file.specs.declared.event.Timed.{Timed}
 use Rattle.trace_file.specs.declared.fault.Parts.{Parts}
 use Rattle.trace_file.specs.Event.{command, timed_with}
-use Rattle.trace_file.specs.Fault.{Rule, First}
+use Rattle.trace_file.specs.Fault.{Rule, First, four_numbers}
 use Rattle.trace_file.specs.Identifier.{Form, number, width}
 
 -- an event command as it stands in a file, with the characters of its identifier
@@ -56,7 +56,7 @@ pub record Sound (c : Command) : Type 0 where
 -- the bytes are these commands, one after another, and the end command with their number
 pub record Reads (bs : List ℕ) (cs : List Command) : Type 0 where
   pub whole : bs ≡ flat_map encoded cs ++ end_command (length cs)
-  pub sound : All Sound cs
+  pub sound : AllByRecursion Sound cs
   pub few : length cs ≤ most_events
 
 -- the event that a command says, with the number of its identifier
@@ -78,7 +78,7 @@ abbrev pub argument : List ℕ → ℕ
 argument bs = from_little (take 4 (drop 1 bs))
 
 abbrev pub in_file : ℕ → ℕ → Parts
-in_file number place = record { layer = 1; number = number; ground = 0; place = place }
+in_file number place = four_numbers 1 number 0 place
 
 -- What is refused at a place of a file, after n events, where these bytes are left, in the order in which it is tested.
 abbrev pub refusals : ℕ → ℕ → List ℕ → List Rule
@@ -98,6 +98,6 @@ pub record Refuses (bs : List ℕ) (p : Parts) : Type 0 where
   pub commands : List Command
   pub rest : List ℕ
   pub whole : bs ≡ flat_map encoded commands ++ rest
-  pub sound : All Sound commands
+  pub sound : AllByRecursion Sound commands
   pub few : length commands ≤ most_events
   pub first : First (refusals (length commands) (length (flat_map encoded commands)) rest) p

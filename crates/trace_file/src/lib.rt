@@ -1,4 +1,6 @@
 // Reads trace files: faults, events, identifiers, commands, and the check of a whole file.
+#![tactic(auto)]
+
 mod command;
 pub mod event;
 pub mod fault;

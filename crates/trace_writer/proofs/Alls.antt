@@ -1,6 +1,6 @@
 -- Events that are written all at once, one after another.
 use Rattle.std.proofs.Common.{◌≡◌, ℕ, ◌+◌, ◌<◌, ◌≤◌, List, [], ◌∷◌, ◌++◌, length, get_or, take, drop, sym, refl, ap, ◌∙◌, subst, append_assoc, arith, length-append}
-use Rattle.std.specs.List.{AllByRecursion as All}
+use Rattle.std.specs.List.{AllByRecursion}
 use Rattle.std.proofs.ByRecursion.{All-push}
 use Rattle.std.proofs.lemmas.List.{take_all, take_more, drop_more, take-append-drop, length-take-le, length_push}
 use Rattle.trace_file.specs.declared.event.Timed.{Timed}
@@ -39,7 +39,7 @@ module _ (es : List (Timed ℕ)) (i : ℕ) (d : Timed ℕ) (lt : i < length es) 
         let size : at + k ≡ length (bytes_of (take (i + 1) es)) = omega (arith, sofar.size, able.size, ap length bytes_more, length-append (bytes_of (take i es)) (encoded (command_for (get_or es i d)))) in
         record {
           fitting = record {
-            writable = subst (All Writable) (sym (take_more es i d lt)) (All-push Writable (take i es) (get_or es i d) sofar.fitting.writable able.writable);
+            writable = subst (AllByRecursion Writable) (sym (take_more es i d lt)) (All-push Writable (take i es) (get_or es i d) sofar.fitting.writable able.writable);
             few = omega (arith, ap length (take_more es i d lt), length_push (take i es) (get_or es i d), long, able.none.0);
             fits = omega (arith, size, able.size, able.none.1.1.1.0);
           };

@@ -1,7 +1,7 @@
 -- What a writer's bytes hold, from one call to the next.
 use Rattle.std.proofs.Common.{◌≡◌, ℕ, ◌+◌, ◌<◌, ◌≤◌, List, [], ◌∷◌, ◌++◌, map, length, take, sym, refl, ap, ◌∙◌, subst, arith}
 use mathlib.Core.Path.{fun_ext}
-use Rattle.std.specs.List.{flat_map, AllByRecursion as All}
+use Rattle.std.specs.List.{flat_map, AllByRecursion}
 use Rattle.std.proofs.ByRecursion.{All-push, All-map, All-weaker}
 use Rattle.std.proofs.lemmas.List.{flat_map_more, length_push, length-map, map_push}
 use Rattle.trace_file.specs.declared.event.Event.{Event}
@@ -38,7 +38,7 @@ back e = with-with padded number e ∙ ap (λ f. with f e) (fun_ext number-padde
 pub meant_for : (e : Timed ℕ) → meant (command_for e) ≡ e
 meant_for e = λ i. record { gap = e.gap; event = back e.event i }
 
-pub all_sound : (es : List (Timed ℕ)) → All Writable es → All Sound (map command_for es)
+pub all_sound : (es : List (Timed ℕ)) → AllByRecursion Writable es → AllByRecursion Sound (map command_for es)
 all_sound es h = All-map Sound command_for es (All-weaker Writable (λ e. Sound (command_for e)) sound_for es h)
 
 pub all_meant : (es : List (Timed ℕ)) → map meant (map command_for es) ≡ es
@@ -49,7 +49,7 @@ pub joined_push : (es : List (Timed ℕ)) (e : Timed ℕ) → bytes_of es ++ enc
 joined_push es e = flat_map_more encoded [] (map command_for es) (command_for e) ∙ ap (flat_map encoded) (sym (map_push command_for es e))
 
 -- the commands of some events and the end command are a file of these events
-pub file_of : (es : List (Timed ℕ)) → All Writable es → length es ≤ most_events → FileOf (bytes_of es ++ end_command (length es)) es
+pub file_of : (es : List (Timed ℕ)) → AllByRecursion Writable es → length es ≤ most_events → FileOf (bytes_of es ++ end_command (length es)) es
 file_of es h few = record {
   commands = map command_for es;
   reads = record {

@@ -1,7 +1,7 @@
 -- Commands with their identifiers in the writer's padding.
 use Rattle.std.proofs.Common.{◌≡◌, ℕ, ◌+◌, ◌-◌, ◌<◌, ◌≤◌, List, [], ◌∷◌, ◌++◌, map, length, get_or, take, sym, refl, ap, ◌∙◌, subst, ⊎_elim, append_assoc, zero-add, arith, length-append}
 use mathlib.Core.Path.{fun_ext}
-use Rattle.std.specs.List.{flat_map, AllByRecursion as All}
+use Rattle.std.specs.List.{flat_map, AllByRecursion}
 use Rattle.std.proofs.ByRecursion.{All-map, All-weaker}
 use Rattle.std.proofs.lemmas.List.{append_cancel_left, same_from_push, length_push, flat_map_more, map_push, get_or_append_left, get_or-append_right, length-map}
 use Rattle.std.proofs.lemmas.Bool.{cases_lt}
@@ -73,7 +73,7 @@ further c cs k le i = record {
   to = omega (arith, length-append (encoded c) (flat_map encoded i.before), i.to);
 }
 
-alone_run : (cs : List Command) (t : List ℕ) (k : ℕ) → All Sound cs → (InIdentifier cs k → ⊥) → get_or (flat_map encoded (map tidied cs) ++ t) k 0 ≡ get_or (flat_map encoded cs ++ t) k 0
+alone_run : (cs : List Command) (t : List ℕ) (k : ℕ) → AllByRecursion Sound cs → (InIdentifier cs k → ⊥) → get_or (flat_map encoded (map tidied cs) ++ t) k 0 ≡ get_or (flat_map encoded cs ++ t) k 0
 alone_run [] t k h apart = refl
 alone_run (c ∷ cs) t k h apart =
     let long = long_tidied c h.0 in
@@ -91,7 +91,7 @@ alone_run (c ∷ cs) t k h apart =
     ∙ sym (ap (λ l. get_or l k 0) old ∙ get_or-append_right (encoded c) _ (length (encoded c)) k 0 refl ge))
     (cases_lt k (length (encoded c)))
 
-pub long_run : (cs : List Command) → All Sound cs → length (flat_map encoded (map tidied cs)) ≡ length (flat_map encoded cs)
+pub long_run : (cs : List Command) → AllByRecursion Sound cs → length (flat_map encoded (map tidied cs)) ≡ length (flat_map encoded cs)
 long_run [] h = refl
 long_run (c ∷ cs) h =
     length-append (encoded (tidied c)) (flat_map encoded (map tidied cs))

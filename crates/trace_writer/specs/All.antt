@@ -1,6 +1,6 @@
 -- What is written of events that are given all at once.
 use Rattle.std.specs.Prelude.{◌≡◌, ℕ, ◌+◌, ◌≤◌, ◌⊎◌, List, ◌∷◌, ◌++◌, length, take, Ok, Err, Result}
-use Rattle.std.specs.List.{AllByRecursion as All}
+use Rattle.std.specs.List.{AllByRecursion}
 use Rattle.trace_file.specs.declared.event.Timed.{Timed}
 use Rattle.trace_file.specs.declared.fault.Fault.{Fault}
 use Rattle.trace_file.specs.declared.fault.Parts.{Parts}
@@ -10,7 +10,7 @@ use Rattle.trace_writer.specs.Writing.{written, bytes_of, Writable, put_refusals
 
 -- all these events can be put where there are room bytes
 pub record Fitting (room : ℕ) (es : List (Timed ℕ)) : Type 0 where
-  pub writable : All Writable es
+  pub writable : AllByRecursion Writable es
   pub few : length es ≤ most_events
   pub fits : length (bytes_of es) ≤ room
 

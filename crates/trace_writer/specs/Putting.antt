@@ -1,6 +1,6 @@
 -- What an open writer does with each call.
 use Rattle.std.specs.Prelude.{◌≡◌, ℕ, ◌+◌, ◌≤◌, List, [], ◌∷◌, ◌++◌, length, take, Ok, Err, Result}
-use Rattle.std.specs.List.{AllByRecursion as All}
+use Rattle.std.specs.List.{AllByRecursion}
 use Rattle.trace_file.specs.declared.event.Timed.{Timed}
 use Rattle.trace_file.specs.declared.fault.Fault.{Fault}
 use Rattle.trace_file.specs.Fault.{First, NoneOf, parts}
@@ -13,7 +13,7 @@ use Rattle.trace_writer.specs.Writing.{written, command_for, bytes_of, Writable,
 pub record Holds (w : Writer) (out : List ℕ) (es : List (Timed ℕ)) : Type 0 where
   pub within : w.at ≤ length out
   pub bytes : take w.at out ≡ bytes_of es
-  pub writable : All Writable es
+  pub writable : AllByRecursion Writable es
   pub few : length es ≤ most_events
   pub events : w.events ≡ length es
 

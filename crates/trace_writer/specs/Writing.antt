@@ -6,7 +6,7 @@ use Rattle.trace_file.specs.declared.event.Operand.TheVariants.{Nothing, Identif
 use Rattle.trace_file.specs.declared.event.Timed.{Timed}
 use Rattle.trace_file.specs.declared.fault.Parts.{Parts}
 use Rattle.trace_file.specs.Event.{command, timed_with}
-use Rattle.trace_file.specs.Fault.{Rule, NoneOf}
+use Rattle.trace_file.specs.Fault.{Rule, NoneOf, four_numbers}
 use Rattle.trace_file.specs.File.{Command, encoded, most_events}
 use Rattle.trace_file.specs.Identifier.{padded, greatest}
 
@@ -41,7 +41,7 @@ TooGreat (Identifier n) = greatest < n
 TooGreat (Thread t) = ⊥
 
 abbrev pub in_writer : ℕ → ℕ → Parts
-in_writer number place = record { layer = 5; number = number; ground = 0; place = place }
+in_writer number place = four_numbers 5 number 0 place
 
 -- What is refused of an event after n events in so many bytes, where there are room bytes, in the order in which it is tested.
 abbrev pub put_refusals : ℕ → ℕ → ℕ → Timed ℕ → List Rule

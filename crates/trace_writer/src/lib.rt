@@ -1,4 +1,6 @@
 // Writes trace files: an open writer, all events at once, and a file again in one padding.
+#![tactic(auto)]
+
 mod admission;
 mod all;
 mod bytes;

@@ -32,7 +32,7 @@ fn is_tidy(event: Event<Identifier<'_>>) -> bool
 {
     let (_, operand) = event.command();
     match operand {
-        Operand::Identifier(identifier) => identifier.chars == digits(identifier.number),
+        Operand::Identifier(identifier) => identifier.chars == digits(identifier.number).as_slice(),
         _ => true,
     }
 }

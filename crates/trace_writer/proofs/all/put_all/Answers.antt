@@ -13,9 +13,9 @@ use Rattle.trace_writer.proofs.all.put_all.Goals as goal
 absent : Timed ℕ
 absent = record { gap = 0; event = NmiEntry }
 
-pub write_at-requires : goal.write_at-requires
+pub write-at-requires : goal.write-at-requires
 unfolding absent
-write_at-requires c =
+write-at-requires c =
     let lt = c.loop-timed-test.true in
     record {
       small = (All-get_or Writable _ _ _ lt c.requires.writable).operand;
@@ -24,7 +24,7 @@ write_at-requires c =
 
 pub overflow_add-at : goal.overflow_add-at
 unfolding absent
-overflow_add-at c = record { fits = omega (arith, bytes_within c.args.events.now c.loop-timed.timed-index absent c.loop-timed-test.true, c.requires.fits, c.loop-timed.invariant.1, c.write_at.ensures.size, c.well-formed) }
+overflow_add-at c = record { fits = omega (arith, bytes_within c.args.events.now c.loop-timed.timed-index absent c.loop-timed-test.true, c.requires.fits, c.loop-timed.invariant.1, c.write-at.ensures.size, c.well_formed) }
 
 pub loop-timed-preserved : goal.loop-timed-preserved
 unfolding absent
@@ -33,7 +33,7 @@ loop-timed-preserved c =
     let i = c.loop-timed.timed-index in
     let more = bytes_more es i _ c.loop-timed-test.true in
     let inv = c.loop-timed.invariant in
-    let told = c.write_at.ensures in (
+    let told = c.write-at.ensures in (
       written_on _ _ _ _ _ _ inv.0 inv.1 told.bytes ∙ ap (written c.args.out.now 0) (sym more),
       omega (arith, inv.1, told.size, ap length more, length-append (bytes_of (take i es)) (encoded (command_for (get_or es i absent)))),
     )
