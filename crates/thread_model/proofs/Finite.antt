@@ -1,5 +1,5 @@
 -- trial
-use Rattle.std.proofs.Common.{◌≡◌, Bool, true, false, cond, not, ◌&&◌, ◌||◌, T, eqb, Some, None, Option, unwrap_or, refl}
+use Rattle.std.proofs.Common.{Bool, true, false, cond, not, ◌&&◌, T, eqb, Some, None, Option, unwrap_or}
 use Rattle.trace_file.specs.declared.event.Event.{Event}
 use Rattle.trace_file.specs.declared.event.Event.TheVariants.{NmiEntry, NmiExit, IrqEntry, IrqExit, LocalIrqDisable, LocalIrqEnable, PreemptDisable, PreemptEnable, PreemptDisableSched, ScheduleEntry, SchedSwitch, ScheduleExit, PreemptEnableSched, NeedResched, SchedWaking}
 use Rattle.trace_file.specs.declared.fault.Ground.{Ground}

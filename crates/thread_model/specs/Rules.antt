@@ -7,7 +7,7 @@ use Rattle.trace_file.specs.declared.fault.Ground.TheVariants.{NmiInTurn, Thread
 use Rattle.thread_model.specs.declared.state.Preemption.{Preemption}
 use Rattle.thread_model.specs.declared.state.Preemption.TheVariants.{On, OffByThread, OffByHandler, OffToSchedule}
 use Rattle.thread_model.specs.declared.state.State.{State}
-use Rattle.thread_model.specs.State.{Kind, is, irq_entry, sched_switch, step_number, due}
+use Rattle.thread_model.specs.State.{is, irq_entry, sched_switch, step_number, due}
 
 abbrev pub is_on : Preemption → Bool
 is_on On = true

@@ -1,23 +1,26 @@
 // The verdict on each event, and the state after it.
 ghost use Rattle.std.specs.Prelude.{◌≡◌};
 ghost use Rattle.thread_model.specs.Rules.{verdict};
-ghost use Rattle.thread_model.specs.State.{context, start, next};
+ghost use Rattle.thread_model.specs.State.{context, start, next, step_after};
 
 use crate::state::{Context, Preemption, State, Step};
 use trace_file::event::Event;
 use trace_file::fault::Ground;
 
 impl Step {
-    // The step after the pass's next event.
-    fn onward(self) -> Step {
-        match self {
-            Step::Outside => Step::PreemptionOff,
-            Step::PreemptionOff => Step::Entered,
-            Step::Entered => Step::IrqsOff,
-            Step::IrqsOff => Step::Switched,
-            Step::Switched => Step::IrqsOn,
-            Step::IrqsOn => Step::Left,
-            Step::Left => Step::Outside,
+    // The step after an event: the pass goes on at its next event alone.
+    fn after<I: Copy>(self, event: Event<I>) -> Step
+        ensures { result ≡ step_after event self }
+    {
+        match (self, event) {
+            (Step::Outside, Event::PreemptDisableSched) => Step::PreemptionOff,
+            (Step::PreemptionOff, Event::ScheduleEntry) => Step::Entered,
+            (Step::Entered, Event::LocalIrqDisable) => Step::IrqsOff,
+            (Step::IrqsOff, Event::SchedSwitch(_)) => Step::Switched,
+            (Step::Switched, Event::LocalIrqEnable) => Step::IrqsOn,
+            (Step::IrqsOn, Event::ScheduleExit) => Step::Left,
+            (Step::Left, Event::PreemptEnableSched) => Step::Outside,
+            (step, _) => step,
         }
     }
 }
@@ -162,23 +165,57 @@ impl State {
     pub fn after<I: Copy>(&self, event: Event<I>) -> State
         ensures { result ≡ next self.now event }
     {
-        let state = *self;
-        match (event, self.step) {
-            (Event::NmiEntry, _) => State { nmi: true, ..state },
-            (Event::NmiExit, _) => State {
+        let state = State {
+            step: self.step.after(event),
+            ..*self
+        };
+        match event {
+            Event::NmiEntry => State { nmi: true, ..state },
+            Event::NmiExit => State {
                 nmi: false,
                 ..state
             },
-            (Event::IrqEntry(_), _) => State {
+            Event::IrqEntry(_) => State {
                 handler: true,
                 ..state
             },
-            (Event::IrqExit, _) => State {
+            Event::IrqExit => State {
                 handler: false,
                 ..state
             },
-            (Event::SchedWaking(_), _) => state,
-            _ => state,
+            Event::LocalIrqDisable => State {
+                masked: true,
+                ..state
+            },
+            Event::LocalIrqEnable => State {
+                masked: false,
+                ..state
+            },
+            Event::PreemptDisable if self.handler => State {
+                preemption: Preemption::OffByHandler,
+                ..state
+            },
+            Event::PreemptDisable => State {
+                preemption: Preemption::OffByThread,
+                ..state
+            },
+            Event::PreemptDisableSched => State {
+                preemption: Preemption::OffToSchedule,
+                ..state
+            },
+            Event::PreemptEnable | Event::PreemptEnableSched => State {
+                preemption: Preemption::On,
+                ..state
+            },
+            Event::NeedResched => State {
+                resched: true,
+                ..state
+            },
+            Event::SchedSwitch(_) => State {
+                resched: false,
+                ..state
+            },
+            Event::ScheduleEntry | Event::ScheduleExit | Event::SchedWaking(_) => state,
         }
     }
 }

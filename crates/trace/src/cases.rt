@@ -30,7 +30,7 @@ fn line<T: Drop>(heap: Global, res: Result<T, Stop>) -> Result<String, Fail> {
 fn counts(rt: HostRuntime) -> Result<(), Fail> {
     let mut out = Vec::new(rt.alloc());
     done(jobs::count(&mut out, &BLANKS))?;
-    assert_eq!(rt; out.as_slice(), b"5\n");
+    assert_eq!(rt; out.as_slice(), b"5\n".as_slice());
     Ok(())
 }
 
@@ -40,7 +40,7 @@ fn shows(rt: HostRuntime) -> Result<(), Fail> {
     done(jobs::show(&mut out, &BLANKS))?;
     assert_eq!(rt;
         out.as_slice(),
-        b"10,preempt_disable\n15,irq_entry,33\n19,need_resched\n25,irq_exit\n27,sched_switch,7\n"
+        b"10,preempt_disable\n15,irq_entry,33\n19,need_resched\n25,irq_exit\n27,sched_switch,7\n".as_slice()
     );
     Ok(())
 }
@@ -53,7 +53,7 @@ fn tidies(rt: HostRuntime) -> Result<(), Fail> {
     assert_eq!(rt; out.as_slice(), &ZEROS[..]);
     assert_eq!(rt;
         said.as_slice(),
-        b"5 events, 36 bytes, identifiers changed: 1\n"
+        b"5 events, 36 bytes, identifiers changed: 1\n".as_slice()
     );
     Ok(())
 }

@@ -1,13 +1,14 @@
 // trace: looks at a trace on standard input, says what is wrong with it, and tidies it.
 #![tactic(auto)]
+
 #[cfg(test)]
 mod cases;
 mod jobs;
 
-use anyhow::anyhow;
 use jobs::Stop;
 use std::env;
 use std::io::{BufWriter, Write};
+use std::process::ExitCode;
 
 const USAGE: &str = "usage: trace check | show | tidy, with the trace on standard input
 
@@ -40,19 +41,20 @@ fn run(rt: &HostRuntime) -> Result<(), Stop> {
     Ok(())
 }
 
-fn main(rt: HostRuntime) -> anyhow::Result<()> {
+// A refusal and a wrong call say why themselves, and only another failure is reported as an error.
+fn main(rt: HostRuntime) -> anyhow::Result<ExitCode> {
     match run(&rt) {
-        Ok(()) => Ok(()),
+        Ok(()) => Ok(ExitCode::SUCCESS),
         Err(Stop::Refused(fault)) => {
             println!(rt; "{fault}")?;
             let word = fault.refusal.word();
             let place = fault.place;
             eprintln!(rt; "trace: {word}, at byte {place}")?;
-            Err(word.into())
+            Ok(ExitCode::FAILURE)
         }
         Err(Stop::Usage) => {
             eprintln!(rt; "{USAGE}")?;
-            Err(anyhow!("usage"))
+            Ok(ExitCode::FAILURE)
         }
         Err(Stop::Failed(e)) => Err(e),
     }

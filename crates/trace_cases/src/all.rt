@@ -2,6 +2,7 @@
 use crate::answers::{IN_WRITER, expected, parts};
 use crate::sample;
 use crate::space::{BEFORE, ROOM};
+use std::fmt::Display;
 use std::process::Abort;
 use std::test::Fail;
 use trace_file::event::{Event, Timed};
@@ -28,13 +29,13 @@ fn refuses(
     events: &[Timed<u32>],
     room: usize,
     refusal: (u8, usize),
-) -> Result<(), Fail> {
+    case: &impl Display,
+) {
     let mut out = [BEFORE; ROOM];
-    assert!(rt; room <= ROOM);
+    assert!(rt; room <= ROOM, "{case}");
     let found = write_all(events, &mut out[0..room]);
-    assert_eq!(rt; parts(found), expected(IN_WRITER, Err(refusal)));
-    assert_eq!(rt; out, [BEFORE; ROOM]);
-    Ok(())
+    assert_eq!(rt; parts(found), expected(IN_WRITER, Err(refusal)), "{case}");
+    assert_eq!(rt; out, [BEFORE; ROOM], "{case}");
 }
 
 #[test]
@@ -54,12 +55,18 @@ fn the_file_and_nothing_after_it(rt: HostRuntime) {
 }
 
 #[test]
-fn too_few_bytes(rt: HostRuntime) -> Result<(), Fail> {
+fn too_few_bytes(rt: HostRuntime) {
     for room in 0..sample::SIZE {
         let refusal = (15, sample::command_cut(room));
-        refuses(&rt, &sample::events(), room, refusal).note(format_args!("{room} bytes"))?;
+        refuses(
+            &rt,
+            &sample::events(),
+            room,
+            refusal,
+            &format_args!("{room} bytes"),
+        );
     }
-    refuses(&rt, &[], 4, (15, 0))
+    refuses(&rt, &[], 4, (15, 0), &"no events");
 }
 
 // The events with one of them changed.
@@ -76,7 +83,7 @@ fn edited(at: usize, gap: u32, event: Event<u32>) -> Result<[Timed<u32>; 16], Fa
 fn one_changed_event(rt: HostRuntime) -> Result<(), Fail> {
     for Edit(name, at, gap, event, room, refusal) in &EDITS {
         let events = edited(*at, *gap, *event)?;
-        refuses(&rt, &events, *room, *refusal).note(*name)?;
+        refuses(&rt, &events, *room, *refusal, name);
     }
     Ok(())
 }

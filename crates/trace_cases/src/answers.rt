@@ -1,6 +1,6 @@
 // What is answered of a file or by a writer, and what must be.
+use std::fmt::Display;
 use std::process::Abort;
-use std::test::Fail;
 use trace_file::MOST_EVENTS;
 use trace_file::fault::{Fault, Parts};
 use trace_file::reader::Reader;
@@ -47,9 +47,8 @@ fn handed_out(file: &[u8]) -> Result<u32, Fault> {
 }
 
 // A check of the file and a reader of it both answer this.
-pub(crate) fn answers(rt: &impl Abort, file: &[u8], answer: Answer<u32>) -> Result<(), Fail> {
+pub(crate) fn answers(rt: &impl Abort, file: &[u8], answer: Answer<u32>, case: &impl Display) {
     let expected = expected(IN_FILE, answer);
-    assert_eq!(rt; parts(trace_file::check(file)), expected);
-    assert_eq!(rt; parts(handed_out(file)), expected, "by a reader");
-    Ok(())
+    assert_eq!(rt; parts(trace_file::check(file)), expected, "{case}");
+    assert_eq!(rt; parts(handed_out(file)), expected, "{case}; by a reader");
 }

@@ -1,7 +1,6 @@
 // A sound file that is cut short at each of its bytes, and one with more bytes after it.
 use crate::answers::{Answer, answers};
 use crate::sample;
-use std::test::Fail;
 
 // What is answered of so many bytes of a sound file and others after it.
 fn answer_of(size: usize) -> Answer<u32> {
@@ -15,12 +14,16 @@ fn answer_of(size: usize) -> Answer<u32> {
 }
 
 #[test]
-fn every_length(rt: HostRuntime) -> Result<(), Fail> {
+fn every_length(rt: HostRuntime) {
     let mut file = [0; 2 * sample::SIZE];
     file[0..sample::SIZE].copy_from_slice(&sample::FILE);
     file[sample::SIZE..2 * sample::SIZE].copy_from_slice(&sample::FILE);
     for size in 0..=2 * sample::SIZE {
-        answers(&rt, &file[0..size], answer_of(size)).note(format_args!("{size} bytes"))?;
+        answers(
+            &rt,
+            &file[0..size],
+            answer_of(size),
+            &format_args!("{size} bytes"),
+        );
     }
-    Ok(())
 }

@@ -1,6 +1,5 @@
 // Small files, each given whole.
 use crate::answers::{Answer, answers};
-use std::test::Fail;
 
 // A case's name, its bytes, and the answer.
 pub struct File(pub &'static str, pub &'static [u8], pub Answer<u32>);
@@ -63,9 +62,8 @@ pub static PAIRS: [File; 18] = [
 ];
 
 #[test]
-fn small_files(rt: HostRuntime) -> Result<(), Fail> {
+fn small_files(rt: HostRuntime) {
     for File(name, bytes, answer) in FILES.iter().chain(&PAIRS) {
-        answers(&rt, bytes, *answer).note(*name)?;
+        answers(&rt, bytes, *answer, name);
     }
-    Ok(())
 }

@@ -74,16 +74,16 @@ static ILL_FORMED: [[u8; 4]; 30] = [
 // The second event that a reader hands out has this identifier.
 fn reads(rt: &impl Abort, file: &[u8], chars: &[u8], number: u32) -> Result<(), Fail> {
     let mut reader = Reader::new(file);
-    assert!(rt; parts(reader.next())?.is_some());
+    assert!(rt; parts(reader.next())?.is_some(), "{chars:?}");
     let Some(timed) = parts(reader.next())? else {
-        return Err(Fail::new("no second event"));
+        return Err(Fail::new(format_args!("{chars:?}: no second event")));
     };
     let Event::IrqEntry(identifier) = timed.event else {
-        return Err(Fail::new("no identifier"));
+        return Err(Fail::new(format_args!("{chars:?}: no identifier")));
     };
     assert_eq!(rt; identifier.chars, chars);
-    assert_eq!(rt; identifier.number, number);
-    assert_eq!(rt; identifier.place, 10);
+    assert_eq!(rt; identifier.number, number, "{chars:?}");
+    assert_eq!(rt; identifier.place, 10, "{chars:?}");
     Ok(())
 }
 
@@ -91,16 +91,20 @@ fn reads(rt: &impl Abort, file: &[u8], chars: &[u8], number: u32) -> Result<(), 
 fn each_padding_is_read(rt: HostRuntime) -> Result<(), Fail> {
     for Padding(chars, number, _) in &PADDINGS {
         let file = file_with(*chars);
-        answers(&rt, &file, Ok(2)).note(format_args!("{chars:?}"))?;
-        reads(&rt, &file, chars, *number).note(format_args!("{chars:?}"))?;
+        answers(&rt, &file, Ok(2), &format_args!("{chars:?}"));
+        reads(&rt, &file, chars, *number)?;
     }
     Ok(())
 }
 
 #[test]
-fn other_characters_are_refused(rt: HostRuntime) -> Result<(), Fail> {
+fn other_characters_are_refused(rt: HostRuntime) {
     for chars in &ILL_FORMED {
-        answers(&rt, &file_with(*chars), Err((4, 5))).note(format_args!("{chars:?}"))?;
+        answers(
+            &rt,
+            &file_with(*chars),
+            Err((4, 5)),
+            &format_args!("{chars:?}"),
+        );
     }
-    Ok(())
 }

@@ -1,5 +1,6 @@
 // Cases of reading and writing trace files: some shown of the definitions, the others run.
 #![tactic(auto)]
+
 #[cfg(test)]
 mod all;
 #[cfg(test)]

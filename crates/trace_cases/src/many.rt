@@ -66,7 +66,7 @@ fn a_million_events(rt: HostRuntime) -> Result<(), Fail> {
     for Tail(name, tail, answer) in &TAILS {
         file.truncate(EVENTS_SIZE);
         file.extend_from_slice(tail)?;
-        answers(&rt, file.as_slice(), *answer).note(*name)?;
+        answers(&rt, file.as_slice(), *answer, name);
     }
     Ok(())
 }

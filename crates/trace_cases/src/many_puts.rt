@@ -36,14 +36,12 @@ fn put_more(rt: &impl Abort, writer: &mut Writer, out: &mut [u8]) {
     for Put(name, gap, event) in &PUTS {
         let refusal = Err((10, EVENTS_SIZE));
         let found = writer.put(out, *gap, *event);
-        assert_eq!(rt; parts(found), expected(IN_WRITER, refusal), "{}", *name);
+        assert_eq!(rt; parts(found), expected(IN_WRITER, refusal), "{name}");
         let found = writer.put(&mut [], *gap, *event);
         assert_eq!(rt;
             parts(found),
             expected(IN_WRITER, refusal),
-            "{}; {}",
-            *name,
-            "beside 15"
+            "{name}; beside 15"
         );
     }
 }
@@ -64,7 +62,7 @@ fn a_million_puts(rt: HostRuntime) -> Result<(), Fail> {
     assert!(rt; out.len() == SIZE + 10);
     assert_eq!(rt;
         &out[EVENTS_SIZE..out.len()],
-        b"\0\x40\x42\x0f\0\xee\xee\xee\xee\xee\xee\xee\xee\xee\xee"
+        b"\0\x40\x42\x0f\0\xee\xee\xee\xee\xee\xee\xee\xee\xee\xee".as_slice()
     );
     assert_eq!(rt; parts(trace_file::check(&out[0..SIZE])), Ok(1_000_000));
     Ok(())

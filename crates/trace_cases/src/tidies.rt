@@ -4,8 +4,8 @@ use crate::files::{FILES, File, PAIRS};
 use crate::identifiers::{PADDINGS, Padding, file_with};
 use crate::sample;
 use crate::space::{BEFORE, ROOM};
+use std::fmt::Display;
 use std::process::Abort;
-use std::test::Fail;
 use trace_writer::{tidy, untidy};
 
 static BLANKS: [u8; 32] = *b"\
@@ -21,16 +21,15 @@ static ZEROS: [u8; 32] = *b"\
     \x00\x03\0\0\0";
 
 // The file has so many identifiers in another padding, and is written again so, with nothing after it.
-fn tidies(rt: &impl Abort, file: &[u8], count: u32, tidied: &[u8]) -> Result<(), Fail> {
+fn tidies(rt: &impl Abort, file: &[u8], count: u32, tidied: &[u8], case: &impl Display) {
     let mut out = [BEFORE; ROOM];
-    assert_eq!(rt; parts(untidy(file)), Ok(count));
-    assert_eq!(rt; parts(tidy(file, &mut out)), Ok(tidied.len()));
+    assert_eq!(rt; parts(untidy(file)), Ok(count), "{case}");
+    assert_eq!(rt; parts(tidy(file, &mut out)), Ok(tidied.len()), "{case}");
     let size = tidied.len().min(ROOM);
-    assert_eq!(rt; &out[0..size], tidied);
+    assert_eq!(rt; &out[0..size], tidied, "{case}");
     for byte in &out[size..ROOM] {
-        assert_eq!(rt; *byte, BEFORE);
+        assert_eq!(rt; *byte, BEFORE, "{case}");
     }
-    Ok(())
 }
 
 // So many of the output bytes get no file, and are as they were.
@@ -40,55 +39,65 @@ fn refuses(
     room: usize,
     layer: u8,
     refusal: (u8, usize),
-) -> Result<(), Fail> {
+    case: &impl Display,
+) {
     let mut out = [BEFORE; ROOM];
-    assert!(rt; room <= ROOM);
+    assert!(rt; room <= ROOM, "{case}");
     let found = tidy(file, &mut out[0..room]);
-    assert_eq!(rt; parts(found), expected(layer, Err(refusal)));
-    assert_eq!(rt; out, [BEFORE; ROOM]);
-    Ok(())
+    assert_eq!(rt; parts(found), expected(layer, Err(refusal)), "{case}");
+    assert_eq!(rt; out, [BEFORE; ROOM], "{case}");
 }
 
 #[test]
-fn paddings_alone_change(rt: HostRuntime) -> Result<(), Fail> {
-    tidies(&rt, &sample::FILE, 1, &sample::PADDED)?;
-    tidies(&rt, &sample::PADDED, 0, &sample::PADDED)?;
-    tidies(&rt, &BLANKS, 2, &ZEROS)?;
-    tidies(&rt, &ZEROS, 0, &ZEROS)?;
+fn paddings_alone_change(rt: HostRuntime) {
+    tidies(&rt, &sample::FILE, 1, &sample::PADDED, &"the sample");
+    tidies(
+        &rt,
+        &sample::PADDED,
+        0,
+        &sample::PADDED,
+        &"the sample again",
+    );
+    tidies(&rt, &BLANKS, 2, &ZEROS, &"blanks");
+    tidies(&rt, &ZEROS, 0, &ZEROS, &"zeros");
     let mut exact = [BEFORE; sample::SIZE];
     assert_eq!(rt; parts(tidy(&sample::FILE, &mut exact)), Ok(sample::SIZE));
     assert_eq!(rt; exact, sample::PADDED);
     for Padding(chars, _, digits) in &PADDINGS {
         let count = if chars == digits { 0 } else { 1 };
-        tidies(&rt, &file_with(*chars), count, &file_with(*digits)).note(format_args!(
-            "{chars:?}"
-        ))?;
+        tidies(
+            &rt,
+            &file_with(*chars),
+            count,
+            &file_with(*digits),
+            &format_args!("{chars:?}"),
+        );
     }
-    Ok(())
 }
 
 #[test]
-fn too_few_bytes(rt: HostRuntime) -> Result<(), Fail> {
+fn too_few_bytes(rt: HostRuntime) {
     for room in 0..sample::SIZE {
-        refuses(&rt, &sample::FILE, room, IN_WRITER, (15, 0)).note(format_args!("{room} bytes"))?;
+        refuses(
+            &rt,
+            &sample::FILE,
+            room,
+            IN_WRITER,
+            (15, 0),
+            &format_args!("{room} bytes"),
+        );
     }
-    refuses(&rt, b"\0\0\0\0\0", 4, IN_WRITER, (15, 0))
+    refuses(&rt, b"\0\0\0\0\0", 4, IN_WRITER, (15, 0), &"no events");
 }
 
 // They are refused as by a check, with output bytes and with none.
 #[test]
-fn refused_files(rt: HostRuntime) -> Result<(), Fail> {
+fn refused_files(rt: HostRuntime) {
     for File(name, bytes, answer) in FILES.iter().chain(&PAIRS) {
         if let Err(refusal) = *answer {
-            assert_eq!(rt;
-                parts(untidy(bytes)),
-                expected(IN_FILE, *answer),
-                "{}",
-                *name
-            );
-            refuses(&rt, bytes, ROOM, IN_FILE, refusal).note(*name)?;
-            refuses(&rt, bytes, 0, IN_FILE, refusal).note(*name)?;
+            assert_eq!(rt; parts(untidy(bytes)), expected(IN_FILE, *answer), "{name}");
+            refuses(&rt, bytes, ROOM, IN_FILE, refusal, name);
+            refuses(&rt, bytes, 0, IN_FILE, refusal, name);
         }
     }
-    Ok(())
 }

@@ -38,6 +38,7 @@ pub(crate) fn closed(
 
 // So many of the output bytes are too few for the end command, and the writer is handed back.
 pub(crate) fn unclosed(
+    rt: &impl Abort,
     writer: Writer,
     out: &mut [u8],
     room: usize,
@@ -48,7 +49,8 @@ pub(crate) fn unclosed(
         Ok(_) => Err(Fail::new("closed")),
         Err(Unclosed { writer, fault }) => {
             let refusal = expected::<()>(IN_WRITER, Err((15, place)));
-            kept(writer, check_eq(Err(fault.parts()), refusal))
+            assert_eq!(rt; Err(fault.parts()), refusal);
+            Ok(writer)
         }
     }
 }
