@@ -165,57 +165,23 @@ impl State {
     pub fn after<I: Copy>(&self, event: Event<I>) -> State
         ensures { result ≡ next self.now event }
     {
-        let state = State {
-            step: self.step.after(event),
-            ..*self
-        };
+        let mut state = *self;
+        state.step = self.step.after(event);
         match event {
-            Event::NmiEntry => State { nmi: true, ..state },
-            Event::NmiExit => State {
-                nmi: false,
-                ..state
-            },
-            Event::IrqEntry(_) => State {
-                handler: true,
-                ..state
-            },
-            Event::IrqExit => State {
-                handler: false,
-                ..state
-            },
-            Event::LocalIrqDisable => State {
-                masked: true,
-                ..state
-            },
-            Event::LocalIrqEnable => State {
-                masked: false,
-                ..state
-            },
-            Event::PreemptDisable if self.handler => State {
-                preemption: Preemption::OffByHandler,
-                ..state
-            },
-            Event::PreemptDisable => State {
-                preemption: Preemption::OffByThread,
-                ..state
-            },
-            Event::PreemptDisableSched => State {
-                preemption: Preemption::OffToSchedule,
-                ..state
-            },
-            Event::PreemptEnable | Event::PreemptEnableSched => State {
-                preemption: Preemption::On,
-                ..state
-            },
-            Event::NeedResched => State {
-                resched: true,
-                ..state
-            },
-            Event::SchedSwitch(_) => State {
-                resched: false,
-                ..state
-            },
-            Event::ScheduleEntry | Event::ScheduleExit | Event::SchedWaking(_) => state,
+            Event::NmiEntry => state.nmi = true,
+            Event::NmiExit => state.nmi = false,
+            Event::IrqEntry(_) => state.handler = true,
+            Event::IrqExit => state.handler = false,
+            Event::LocalIrqDisable => state.masked = true,
+            Event::LocalIrqEnable => state.masked = false,
+            Event::PreemptDisable if self.handler => state.preemption = Preemption::OffByHandler,
+            Event::PreemptDisable => state.preemption = Preemption::OffByThread,
+            Event::PreemptDisableSched => state.preemption = Preemption::OffToSchedule,
+            Event::PreemptEnable | Event::PreemptEnableSched => state.preemption = Preemption::On,
+            Event::NeedResched => state.resched = true,
+            Event::SchedSwitch(_) => state.resched = false,
+            Event::ScheduleEntry | Event::ScheduleExit | Event::SchedWaking(_) => {}
         }
+        state
     }
 }
