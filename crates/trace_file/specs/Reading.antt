@@ -11,7 +11,7 @@ use Rattle.trace_file.specs.declared.reader.Reader.{Reader}
 use Rattle.trace_file.specs.Event.{command, timed_with}
 use Rattle.trace_file.specs.Fault.{parts, First}
 use Rattle.trace_file.specs.File.{little, from_little, Command, Sound, Reads, Refuses, encoded, end_command, refusals, most_events}
-use Rattle.trace_file.specs.Identifier.{Form, number as number_of_lem, width}
+use Rattle.trace_file.specs.Identifier.{Form, number as number_of, width}
 
 -- a number stands in so many bytes at the front
 pub record Stands (k n : ℕ) (bs : List ℕ) : Type 0 where
@@ -27,7 +27,7 @@ pub record IdentifierAt (at : ℕ) (bs : List ℕ) (i : Identifier) : Type 0 whe
   pub part : chars i ≡ take width (drop 5 bs)
   pub form : Form (chars i)
   pub place : i.place ≡ at + 5
-  pub number : i.number ≡ number_of_lem (chars i)
+  pub number : i.number ≡ number_of (chars i)
 
 -- a command that was read, as it stands in the file
 abbrev pub as_read : Timed Identifier → Command

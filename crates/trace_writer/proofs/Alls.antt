@@ -9,7 +9,7 @@ use Rattle.trace_file.specs.Fault.{First}
 use Rattle.trace_file.specs.File.{FileOf, encoded, end_command}
 use Rattle.trace_writer.specs.All.{Fitting, StopsAt, StopsAtEnd, WroteAll}
 use Rattle.trace_writer.specs.Writing.{written, command_for, bytes_of, Writable, Admitted, put_refusals, close_refusals}
-use Rattle.trace_writer.proofs.Held.{joined_push, file_of}
+use Rattle.trace_writer.proofs.Held.{bytes_push, file_of}
 use Rattle.trace_writer.proofs.Writes.{take_written}
 
 -- the first i events can be put, in k bytes
@@ -23,7 +23,7 @@ bytes_append (x ∷ xs) ys = ap (λ l. encoded (command_for x) ++ l) (bytes_appe
 
 module _ (es : List (Timed ℕ)) (i : ℕ) (d : Timed ℕ) (lt : i < length es) where
   pub bytes_more : bytes_of (take (i + 1) es) ≡ bytes_of (take i es) ++ encoded (command_for (get_or es i d))
-  bytes_more = ap bytes_of (take_more es i d lt) ∙ sym (joined_push (take i es) (get_or es i d))
+  bytes_more = ap bytes_of (take_more es i d lt) ∙ sym (bytes_push (take i es) (get_or es i d))
 
   pub bytes_within : length (bytes_of (take i es)) + length (encoded (command_for (get_or es i d))) ≤ length (bytes_of es)
   bytes_within =

@@ -45,8 +45,8 @@ pub all_meant : (es : List (Timed ℕ)) → map meant (map command_for es) ≡ e
 all_meant [] = refl
 all_meant (e ∷ es) = λ i. meant_for e i ∷ all_meant es i
 
-pub joined_push : (es : List (Timed ℕ)) (e : Timed ℕ) → bytes_of es ++ encoded (command_for e) ≡ bytes_of (es ++ e ∷ [])
-joined_push es e = flat_map_more encoded [] (map command_for es) (command_for e) ∙ ap (flat_map encoded) (sym (map_push command_for es e))
+pub bytes_push : (es : List (Timed ℕ)) (e : Timed ℕ) → bytes_of es ++ encoded (command_for e) ≡ bytes_of (es ++ e ∷ [])
+bytes_push es e = flat_map_more encoded [] (map command_for es) (command_for e) ∙ ap (flat_map encoded) (sym (map_push command_for es e))
 
 -- the commands of some events and the end command are a file of these events
 pub file_of : (es : List (Timed ℕ)) → AllByRecursion Writable es → length es ≤ most_events → FileOf (bytes_of es ++ end_command (length es)) es
@@ -68,7 +68,7 @@ module _ (w : Writer) (out : List ℕ) (es : List (Timed ℕ)) (holds : Holds w 
       let room : w.at + length bs ≤ length out = omega (arith, able.none.1.1.1.0) in
       record {
         within = omega (arith, at, ap length bytes, length-written out w.at bs room);
-        bytes = ap (λ n. take n after) at ∙ ap (take (w.at + length bs)) bytes ∙ take_written out w.at bs holds.within ∙ ap (λ l. l ++ bs) holds.bytes ∙ joined_push es e;
+        bytes = ap (λ n. take n after) at ∙ ap (take (w.at + length bs)) bytes ∙ take_written out w.at bs holds.within ∙ ap (λ l. l ++ bs) holds.bytes ∙ bytes_push es e;
         writable = All-push Writable es e holds.writable able.writable;
         few = simp length_push (omega (arith, holds.events));
         events = events ∙ ap (λ n. n + 1) holds.events ∙ sym (length_push es e);
