@@ -1,8 +1,9 @@
 #!/usr/bin/env python3
 """Respells the names of definitions, lemmas and goals: words in snake case, facts in camel case.
 
-A dash stays where a lemma's name joins two names, as in length-encoded. Run once, at the top of the repository,
-after port.py, which respells the library's names and those of ours that a library had too.
+A dash stays where a lemma's name joins two names, as in length-encoded. It was run once, at the top of the repository,
+after port.py, which respells the library's names and those of ours that a library had too. It is not to be run again:
+what it turned too much, write-at and write-at-requires of put_all, was turned back by hand.
 """
 import re
 from pathlib import Path

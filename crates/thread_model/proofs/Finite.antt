@@ -1,4 +1,4 @@
--- trial
+-- The rules against the laws, at every state and every event.
 use Rattle.std.proofs.Common.{Bool, true, false, cond, not, ◌&&◌, T, eqb, Some, None, Option, unwrap_or}
 use Rattle.trace_file.specs.declared.event.Event.{Event}
 use Rattle.trace_file.specs.declared.event.Event.TheVariants.{NmiEntry, NmiExit, IrqEntry, IrqExit, LocalIrqDisable, LocalIrqEnable, PreemptDisable, PreemptEnable, PreemptDisableSched, ScheduleEntry, SchedSwitch, ScheduleExit, PreemptEnableSched, NeedResched, SchedWaking}
