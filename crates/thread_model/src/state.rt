@@ -1,14 +1,14 @@
 // What is known of the processor between two events.
 
 // What runs: the innermost of what has been entered and not left.
-#[derive(Clone, Copy)]
+#[derive(Clone, Copy, Debug, PartialEq, Eq)]
 pub enum Context {
     Thread,
     Handler,
     Nmi,
 }
 
-#[derive(Clone, Copy)]
+#[derive(Clone, Copy, Debug, PartialEq, Eq)]
 pub enum Preemption {
     On,
     OffByThread,
@@ -17,7 +17,7 @@ pub enum Preemption {
 }
 
 // How far a pass of the scheduler has come, named by the latest of its events. The last of them leads outside.
-#[derive(Clone, Copy)]
+#[derive(Clone, Copy, Debug, PartialEq, Eq)]
 pub enum Step {
     Outside,
     PreemptionOff,
@@ -28,7 +28,7 @@ pub enum Step {
     Left,
 }
 
-#[derive(Clone, Copy)]
+#[derive(Clone, Copy, Debug, PartialEq, Eq)]
 pub struct State {
     pub nmi: bool,
     pub handler: bool,

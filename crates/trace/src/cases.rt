@@ -11,13 +11,6 @@ const BLANKS: [u8; 36] =
 const ZEROS: [u8; 36] =
     *b"\x07\x0a\0\0\0\x03\x05\0\0\00033\x0e\x04\0\0\0\x04\x06\0\0\0\x0b\x02\0\0\0\x07\0\0\x05\0\0\0";
 
-fn done(res: Result<(), Stop>) -> Result<(), Fail> {
-    match res {
-        Ok(()) => Ok(()),
-        Err(_) => Err(Fail::new("stopped")),
-    }
-}
-
 // The line that is printed of a refusal.
 fn line<T: Drop>(heap: Global, res: Result<T, Stop>) -> Result<String, Fail> {
     match res {
@@ -29,7 +22,7 @@ fn line<T: Drop>(heap: Global, res: Result<T, Stop>) -> Result<String, Fail> {
 #[test]
 fn counts(rt: HostRuntime) -> Result<(), Fail> {
     let mut out = Vec::new(rt.alloc());
-    done(jobs::count(&mut out, &BLANKS))?;
+    jobs::count(&mut out, &BLANKS)?;
     assert_eq!(rt; out.as_slice(), b"5\n".as_slice());
     Ok(())
 }
@@ -37,7 +30,7 @@ fn counts(rt: HostRuntime) -> Result<(), Fail> {
 #[test]
 fn shows(rt: HostRuntime) -> Result<(), Fail> {
     let mut out = Vec::new(rt.alloc());
-    done(jobs::show(&mut out, &BLANKS))?;
+    jobs::show(&mut out, &BLANKS)?;
     assert_eq!(rt;
         out.as_slice(),
         b"10,preempt_disable\n15,irq_entry,33\n19,need_resched\n25,irq_exit\n27,sched_switch,7\n".as_slice()
@@ -49,7 +42,7 @@ fn shows(rt: HostRuntime) -> Result<(), Fail> {
 fn tidies(rt: HostRuntime) -> Result<(), Fail> {
     let mut out = Vec::new(rt.alloc());
     let mut said = Vec::new(rt.alloc());
-    done(jobs::tidy(rt.alloc(), &mut out, &mut said, &BLANKS))?;
+    jobs::tidy(rt.alloc(), &mut out, &mut said, &BLANKS)?;
     assert_eq!(rt; out.as_slice(), &ZEROS[..]);
     assert_eq!(rt;
         said.as_slice(),

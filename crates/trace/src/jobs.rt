@@ -2,37 +2,24 @@
 use std::alloc::{AllocError, Global};
 use std::io;
 use std::io::{Read, Write};
-use trace_file::event::{Operand, Timed};
+use thiserror::Error;
+use trace_file::event::Timed;
 use trace_file::fault::Fault;
-use trace_file::identifier::Identifier;
 use trace_file::reader::Reader;
 use trace_file::{MOST_BYTES, check, limited};
 use trace_writer::untidy;
 
 // Why the program ends with status 1.
-#[derive(Drop)]
+#[derive(Debug, Drop, Error)]
 pub enum Stop {
-    Refused(Fault),
+    #[error("{0}")]
+    Refused(#[from] Fault),
+    #[error("a wrong call")]
     Usage,
-    Failed(anyhow::Error),
-}
-
-impl From<Fault> for Stop {
-    fn from(fault: Fault) -> Stop {
-        Stop::Refused(fault)
-    }
-}
-
-impl From<io::Error> for Stop {
-    fn from(e: io::Error) -> Stop {
-        Stop::Failed(e.into())
-    }
-}
-
-impl From<AllocError> for Stop {
-    fn from(e: AllocError) -> Stop {
-        Stop::Failed(e.into())
-    }
+    #[error(transparent)]
+    Io(#[from] io::Error),
+    #[error(transparent)]
+    Memory(#[from] AllocError),
 }
 
 // The whole trace, unless it is too long.
@@ -50,27 +37,15 @@ pub fn count<W: Write>(out: &mut W, file: &[u8]) -> Result<(), Stop> {
     Ok(())
 }
 
-fn show_event<W: Write>(out: &mut W, stamp: u64, timed: Timed<Identifier<'_>>) -> io::Result<()> {
-    let name = timed.event.name();
-    let (_, operand) = timed.event.command();
-    match operand {
-        Operand::Nothing => writeln!(out, "{stamp},{name}"),
-        Operand::Identifier(identifier) => {
-            let number = identifier.number;
-            writeln!(out, "{stamp},{name},{number}")
-        }
-        Operand::Thread(thread) => writeln!(out, "{stamp},{name},{thread}"),
-    }
-}
-
 // Prints a line for each event, once the whole trace is known to be sound.
 pub fn show<W: Write>(out: &mut W, file: &[u8]) -> Result<(), Stop> {
     check(file)?;
     let mut reader = Reader::new(file);
     let mut stamp: u64 = 0;
-    while let Some(timed) = reader.next()? {
-        stamp = stamp.saturating_add(u64::from(timed.gap));
-        show_event(out, stamp, timed)?;
+    while let Some(Timed { gap, event }) = reader.next()? {
+        stamp = stamp.saturating_add(gap.into());
+
+        writeln!(out, "{stamp},{event}")?;
     }
     Ok(())
 }

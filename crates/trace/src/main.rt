@@ -47,15 +47,13 @@ fn main(rt: HostRuntime) -> anyhow::Result<ExitCode> {
         Ok(()) => Ok(ExitCode::SUCCESS),
         Err(Stop::Refused(fault)) => {
             println!(rt; "{fault}")?;
-            let word = fault.refusal.word();
-            let place = fault.place;
-            eprintln!(rt; "trace: {word}, at byte {place}")?;
+            eprintln!(rt; "trace: {}, at byte {}", fault.refusal, fault.place)?;
             Ok(ExitCode::FAILURE)
         }
         Err(Stop::Usage) => {
             eprintln!(rt; "{USAGE}")?;
             Ok(ExitCode::FAILURE)
         }
-        Err(Stop::Failed(e)) => Err(e),
+        Err(stop) => Err(stop.into()),
     }
 }

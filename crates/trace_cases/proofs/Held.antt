@@ -1,7 +1,8 @@
 -- The definitions give what each case says.
 use Rattle.std.proofs.Common.{◌≡◌, ℕ, zero, suc, ◌+◌, ◌^◌, ◌<◌, ◌≤◌, List, [], ◌∷◌, length, get_or, take, codes, refl, inl, inr, ⊎_elim, arith, lit<, lit≤}
 use Rattle.std.proofs.lemmas.Bool.{cases_lt}
-use Rattle.std.specs.List.{AllByRecursion}
+use Rattle.std.specs.List.{All}
+use Rattle.std.proofs.lemmas.List.Elements.{All-from_recursion, All-cons, All-nil}
 use Rattle.trace_file.specs.declared.event.Event.TheVariants.{IrqEntry}
 use Rattle.trace_file.specs.declared.identifier.Kind.{Kind}
 use Rattle.trace_file.specs.declared.identifier.Kind.TheVariants.{Blank, Digit}
@@ -34,7 +35,7 @@ refused_entry a b c d ill = record {
   commands = [];
   rest = entry (a ∷ b ∷ c ∷ d ∷ []);
   whole = refl;
-  sound = tt;
+  sound = All-nil Sound;
   few = lit≤ tt;
   first = inr (λ p. omega arith, inr (λ p. omega arith, inr (λ p. omega arith, inr (λ p. omega arith, inr (λ p. omega arith, inl ((refl, ill), refl))))));
 }
@@ -66,8 +67,8 @@ two_blanks = record {
     digits (suc (suc (suc zero))) le lt = refl
     digits (suc (suc (suc (suc k)))) le lt = absurd (omega arith)
 
-example_sound : AllByRecursion Sound example
-example_sound = (
+example_sound : All Sound example
+example_sound = All-from_recursion Sound example (
   plain _ (lit< tt) (lit< tt) tt,
   (
     plain _ (lit< tt) (lit< tt) (refl, padded_form 33 (lit≤ tt)),
@@ -142,7 +143,7 @@ blanks_after = record {
 entered : (a b c d : ℕ) → Form (a ∷ b ∷ c ∷ d ∷ []) → FileOf (entry (a ∷ b ∷ c ∷ d ∷ [])) (after 1 (IrqEntry (number (a ∷ b ∷ c ∷ d ∷ []))) ∷ [])
 entered a b c d form = record {
   commands = after 1 (IrqEntry (a ∷ b ∷ c ∷ d ∷ [])) ∷ [];
-  reads = record { whole = refl; sound = (plain _ (lit< tt) (lit< tt) (refl, form), tt); few = lit≤ tt };
+  reads = record { whole = refl; sound = All-cons Sound _ [] (plain _ (lit< tt) (lit< tt) (refl, form)) (All-nil Sound); few = lit≤ tt };
   events = refl;
 }
 
@@ -159,8 +160,8 @@ cut_example = record {
   first = inr (λ p. omega arith, inr (λ p. omega arith, inr (λ p. omega arith, inl (lit< tt, refl))));
 }
 
-pub all_hold : AllByRecursion IsSo cases
-all_hold = (
+pub all_hold : All IsSo cases
+all_hold = All-from_recursion IsSo cases (
   entered _ _ _ _ (padded_form 9999 (lit≤ tt)),
   (
     entered _ _ _ _ blanks_after,

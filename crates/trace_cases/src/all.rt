@@ -1,7 +1,8 @@
 // Events that are written all at once.
-use crate::answers::{IN_WRITER, expected, parts};
+use crate::answers::{IN_WRITER, parts};
 use crate::sample;
-use crate::space::{BEFORE, ROOM};
+use crate::sample::edited;
+use crate::space::{BEFORE, ROOM, refuses, untouched};
 use std::fmt::Display;
 use std::process::Abort;
 use std::test::Fail;
@@ -24,18 +25,21 @@ static EDITS: [Edit; 9] = [
 ];
 
 // So many bytes refuse the events so, and are as they were.
-fn refuses(
+fn refused(
     rt: &impl Abort,
     events: &[Timed<u32>],
     room: usize,
     refusal: (u8, usize),
     case: &impl Display,
 ) {
-    let mut out = [BEFORE; ROOM];
-    assert!(rt; room <= ROOM, "{case}");
-    let found = write_all(events, &mut out[0..room]);
-    assert_eq!(rt; parts(found), expected(IN_WRITER, Err(refusal)), "{case}");
-    assert_eq!(rt; out, [BEFORE; ROOM], "{case}");
+    refuses(
+        rt,
+        room,
+        IN_WRITER,
+        refusal,
+        case,
+        |out| write_all(events, out),
+    );
 }
 
 #[test]
@@ -44,7 +48,7 @@ fn the_file_and_nothing_after_it(rt: HostRuntime) {
     let found = write_all(&sample::events(), &mut out);
     assert_eq!(rt; parts(found), Ok(sample::SIZE));
     assert_eq!(rt; &out[0..sample::SIZE], &sample::PADDED[..]);
-    assert_eq!(rt; &out[sample::SIZE..ROOM], &[BEFORE; 5][..]);
+    assert!(rt; untouched(&out[sample::SIZE..ROOM]));
     let mut exact = [BEFORE; sample::SIZE];
     let found = write_all(&sample::events(), &mut exact);
     assert_eq!(rt; parts(found), Ok(sample::SIZE));
@@ -58,7 +62,7 @@ fn the_file_and_nothing_after_it(rt: HostRuntime) {
 fn too_few_bytes(rt: HostRuntime) {
     for room in 0..sample::SIZE {
         let refusal = (15, sample::command_cut(room));
-        refuses(
+        refused(
             &rt,
             &sample::events(),
             room,
@@ -66,24 +70,18 @@ fn too_few_bytes(rt: HostRuntime) {
             &format_args!("{room} bytes"),
         );
     }
-    refuses(&rt, &[], 4, (15, 0), &"no events");
-}
-
-// The events with one of them changed.
-fn edited(at: usize, gap: u32, event: Event<u32>) -> Result<[Timed<u32>; 16], Fail> {
-    let mut events = sample::events();
-    if at >= events.len() {
-        return Err(Fail::new("no such event"));
-    }
-    events[at] = Timed { gap, event };
-    Ok(events)
+    refused(&rt, &[], 4, (15, 0), &"no events");
 }
 
 #[test]
 fn one_changed_event(rt: HostRuntime) -> Result<(), Fail> {
     for Edit(name, at, gap, event, room, refusal) in &EDITS {
-        let events = edited(*at, *gap, *event)?;
-        refuses(&rt, &events, *room, *refusal, name);
+        let timed = Timed {
+            gap: *gap,
+            event: *event,
+        };
+        let events = edited(sample::events(), *at, timed)?;
+        refused(&rt, &events, *room, *refusal, name);
     }
     Ok(())
 }

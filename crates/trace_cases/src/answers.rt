@@ -11,28 +11,23 @@ pub(crate) const IN_FILE: u8 = 1;
 // The layer that refuses to write.
 pub(crate) const IN_WRITER: u8 = 5;
 
-// What is granted, or the number and the place of a refusal.
+// What is granted, or the number and the place of a refusal: numbers and no enum, since the tables test the numbers that are
+// documented, and `Err((3, 0))` is a line of that table.
 pub type Answer<T> = Result<T, (u8, usize)>;
 
 // What a layer must answer, in numbers.
 pub(crate) fn expected<T>(layer: u8, answer: Answer<T>) -> Result<T, Parts> {
-    match answer {
-        Ok(x) => Ok(x),
-        Err((number, place)) => Err(Parts {
-            layer,
-            number,
-            ground: 0,
-            place,
-        }),
-    }
+    answer.map_err(|(number, place)| Parts {
+        layer,
+        number,
+        ground: 0,
+        place,
+    })
 }
 
 // An answer with its fault in numbers.
 pub(crate) fn parts<T>(answer: Result<T, Fault>) -> Result<T, Parts> {
-    match answer {
-        Ok(x) => Ok(x),
-        Err(fault) => Err(fault.parts()),
-    }
+    answer.map_err(Parts::from)
 }
 
 // How many events a reader hands out up to the end command.

@@ -6,7 +6,20 @@ use std::test::Fail;
 use trace_file::event::Event;
 use trace_writer::writer::Writer;
 
-// The writer with one more event, which is answered by how many there are.
+// Puts one more event, which is answered by how many there are.
+fn put_one(
+    rt: &impl Abort,
+    writer: &mut Writer,
+    out: &mut [u8],
+    event: Event<u32>,
+    count: u32,
+) -> Result<(), Fail> {
+    let found = writer.put(out, 1, event)?;
+    assert_eq!(rt; found, count);
+    Ok(())
+}
+
+// The writer with one more event.
 fn with(
     rt: &impl Abort,
     mut writer: Writer,
@@ -14,14 +27,8 @@ fn with(
     event: Event<u32>,
     count: u32,
 ) -> Result<Writer, Fail> {
-    let checked = match writer.put(out, 1, event) {
-        Ok(found) => {
-            assert_eq!(rt; found, count);
-            Ok(())
-        }
-        Err(fault) => Err(fault.parts().into()),
-    };
-    kept(writer, checked)
+    let done = put_one(rt, &mut writer, out, event, count);
+    kept(writer, done)
 }
 
 #[test]

@@ -15,9 +15,8 @@ fn answer_of(size: usize) -> Answer<u32> {
 
 #[test]
 fn every_length(rt: HostRuntime) {
-    let mut file = [0; 2 * sample::SIZE];
-    file[0..sample::SIZE].copy_from_slice(&sample::FILE);
-    file[sample::SIZE..2 * sample::SIZE].copy_from_slice(&sample::FILE);
+    let files = [sample::FILE; 2];
+    let file = files.as_flattened();
     for size in 0..=2 * sample::SIZE {
         answers(
             &rt,

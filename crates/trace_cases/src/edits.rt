@@ -1,6 +1,7 @@
 // A sound file with one byte changed.
 use crate::answers::{Answer, answers};
 use crate::sample;
+use crate::sample::edited;
 use std::test::Fail;
 
 // A case's name, the place of the byte, what it becomes, and the answer.
@@ -48,20 +49,10 @@ static EDITS: [Edit; 39] = [
     Edit("count in the fourth byte, 0xff", 94, 0xff, Err((5, 90))),
 ];
 
-// The file with one byte changed.
-fn edited(at: usize, byte: u8) -> Result<[u8; sample::SIZE], Fail> {
-    let mut file = sample::FILE;
-    if at >= file.len() {
-        return Err(Fail::new("no such byte"));
-    }
-    file[at] = byte;
-    Ok(file)
-}
-
 #[test]
 fn one_changed_byte(rt: HostRuntime) -> Result<(), Fail> {
     for Edit(name, at, byte, answer) in &EDITS {
-        let file = edited(*at, *byte)?;
+        let file = edited(sample::FILE, *at, *byte)?;
         answers(&rt, &file, *answer, name);
     }
     Ok(())

@@ -5,44 +5,22 @@ use std::process::Abort;
 use std::test::Fail;
 use trace_file::event::{Event, Timed};
 use trace_file::fault::Parts;
-use trace_file::identifier::Identifier;
 use trace_file::reader::Reader;
 
-// An event with the number of its identifier.
-fn numbered(event: Event<Identifier<'_>>) -> Event<u32> {
-    match event {
-        Event::NmiEntry => Event::NmiEntry,
-        Event::NmiExit => Event::NmiExit,
-        Event::IrqEntry(identifier) => Event::IrqEntry(identifier.number),
-        Event::IrqExit => Event::IrqExit,
-        Event::LocalIrqDisable => Event::LocalIrqDisable,
-        Event::LocalIrqEnable => Event::LocalIrqEnable,
-        Event::PreemptDisable => Event::PreemptDisable,
-        Event::PreemptEnable => Event::PreemptEnable,
-        Event::PreemptDisableSched => Event::PreemptDisableSched,
-        Event::ScheduleEntry => Event::ScheduleEntry,
-        Event::SchedSwitch(thread) => Event::SchedSwitch(thread),
-        Event::ScheduleExit => Event::ScheduleExit,
-        Event::PreemptEnableSched => Event::PreemptEnableSched,
-        Event::NeedResched => Event::NeedResched,
-        Event::SchedWaking(thread) => Event::SchedWaking(thread),
-    }
-}
-
-// The next event that a reader hands out, after its gap.
-fn next_of(reader: &mut Reader<'_>) -> Result<Option<(u32, Event<u32>)>, Parts> {
-    let Some(timed) = parts(reader.next())? else {
-        return Ok(None);
-    };
-    Ok(Some((timed.gap, numbered(timed.event))))
+// The next event that a reader hands out, with the number of its identifier.
+fn next_of(reader: &mut Reader<'_>) -> Result<Option<Timed<u32>>, Parts> {
+    let next = parts(reader.next())?;
+    Ok(next.map(|Timed { gap, event }| Timed {
+        gap,
+        event: event.into(),
+    }))
 }
 
 // A reader of the file hands out these events, and then none.
 fn hands_out(rt: &impl Abort, file: &[u8], events: &[Timed<u32>]) -> Result<(), Fail> {
     let mut reader = Reader::new(file);
     for (index, timed) in events.iter().enumerate() {
-        let expected = Some((timed.gap, timed.event));
-        assert_eq!(rt; next_of(&mut reader)?, expected, "event {index}");
+        assert_eq!(rt; next_of(&mut reader)?, Some(*timed), "event {index}");
     }
     assert_eq!(rt; next_of(&mut reader)?, None);
     assert_eq!(rt; next_of(&mut reader)?, None);

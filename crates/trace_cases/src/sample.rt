@@ -1,4 +1,5 @@
 // A file of sixteen events: its bytes, where its commands begin, and its events.
+use std::test::Fail;
 use trace_file::event::{Event, Timed};
 
 // How many bytes it has.
@@ -50,13 +51,21 @@ static PLACES: [usize; 17] = [
 
 // Where the command begins that is cut short where the file ends after so many bytes.
 pub(crate) fn command_cut(size: usize) -> usize {
-    let mut place = 0;
-    for start in &PLACES {
-        if *start <= size {
-            place = *start;
-        }
-    }
-    place
+    let start = PLACES.iter().rev().find(|start| **start <= size);
+    start.copied().unwrap_or(0)
+}
+
+// The bytes or the events with one of them changed.
+pub(crate) fn edited<T: Copy, const N: usize>(
+    mut items: [T; N],
+    at: usize,
+    item: T,
+) -> Result<[T; N], Fail> {
+    let Some(place) = items.get_mut(at) else {
+        return Err(Fail::new("nothing stands there"));
+    };
+    *place = item;
+    Ok(items)
 }
 
 fn after(gap: u32, event: Event<u32>) -> Timed<u32> {

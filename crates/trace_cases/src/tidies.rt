@@ -3,7 +3,7 @@ use crate::answers::{IN_FILE, IN_WRITER, expected, parts};
 use crate::files::{FILES, File, PAIRS};
 use crate::identifiers::{PADDINGS, Padding, file_with};
 use crate::sample;
-use crate::space::{BEFORE, ROOM};
+use crate::space::{BEFORE, ROOM, refuses, untouched};
 use std::fmt::Display;
 use std::process::Abort;
 use trace_writer::{tidy, untidy};
@@ -27,13 +27,11 @@ fn tidies(rt: &impl Abort, file: &[u8], count: u32, tidied: &[u8], case: &impl D
     assert_eq!(rt; parts(tidy(file, &mut out)), Ok(tidied.len()), "{case}");
     let size = tidied.len().min(ROOM);
     assert_eq!(rt; &out[0..size], tidied, "{case}");
-    for byte in &out[size..ROOM] {
-        assert_eq!(rt; *byte, BEFORE, "{case}");
-    }
+    assert!(rt; untouched(&out[size..ROOM]), "{case}");
 }
 
 // So many of the output bytes get no file, and are as they were.
-fn refuses(
+fn refused(
     rt: &impl Abort,
     file: &[u8],
     room: usize,
@@ -41,11 +39,7 @@ fn refuses(
     refusal: (u8, usize),
     case: &impl Display,
 ) {
-    let mut out = [BEFORE; ROOM];
-    assert!(rt; room <= ROOM, "{case}");
-    let found = tidy(file, &mut out[0..room]);
-    assert_eq!(rt; parts(found), expected(layer, Err(refusal)), "{case}");
-    assert_eq!(rt; out, [BEFORE; ROOM], "{case}");
+    refuses(rt, room, layer, refusal, case, |out| tidy(file, out));
 }
 
 #[test]
@@ -78,7 +72,7 @@ fn paddings_alone_change(rt: HostRuntime) {
 #[test]
 fn too_few_bytes(rt: HostRuntime) {
     for room in 0..sample::SIZE {
-        refuses(
+        refused(
             &rt,
             &sample::FILE,
             room,
@@ -87,7 +81,7 @@ fn too_few_bytes(rt: HostRuntime) {
             &format_args!("{room} bytes"),
         );
     }
-    refuses(&rt, b"\0\0\0\0\0", 4, IN_WRITER, (15, 0), &"no events");
+    refused(&rt, b"\0\0\0\0\0", 4, IN_WRITER, (15, 0), &"no events");
 }
 
 // They are refused as by a check, with output bytes and with none.
@@ -96,8 +90,8 @@ fn refused_files(rt: HostRuntime) {
     for File(name, bytes, answer) in FILES.iter().chain(&PAIRS) {
         if let Err(refusal) = *answer {
             assert_eq!(rt; parts(untidy(bytes)), expected(IN_FILE, *answer), "{name}");
-            refuses(&rt, bytes, ROOM, IN_FILE, refusal, name);
-            refuses(&rt, bytes, 0, IN_FILE, refusal, name);
+            refused(&rt, bytes, ROOM, IN_FILE, refusal, name);
+            refused(&rt, bytes, 0, IN_FILE, refusal, name);
         }
     }
 }

@@ -2,6 +2,7 @@
 use crate::answers::{IN_WRITER, expected};
 use std::process::Abort;
 use std::test::Fail;
+use trace_file::fault::Parts;
 use trace_writer::writer::{Unclosed, Writer};
 
 // The writer, or where a check of it failed the failure, with the writer given up.
@@ -31,7 +32,7 @@ pub(crate) fn closed(
         },
         Err(Unclosed { writer, fault }) => {
             let _ = writer.give_up();
-            Err(fault.parts().into())
+            Err(fault.into())
         }
     }
 }
@@ -49,7 +50,7 @@ pub(crate) fn unclosed(
         Ok(_) => Err(Fail::new("closed")),
         Err(Unclosed { writer, fault }) => {
             let refusal = expected::<()>(IN_WRITER, Err((15, place)));
-            assert_eq!(rt; Err(fault.parts()), refusal);
+            assert_eq!(rt; Err(Parts::from(fault)), refusal);
             Ok(writer)
         }
     }

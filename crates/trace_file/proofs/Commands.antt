@@ -1,16 +1,13 @@
 -- The command table, and the bytes of commands.
-use Rattle.std.proofs.Common.{◌≡◌, ℕ, ◌+◌, ◌^◌, ◌<◌, ◌≤◌, cond, ◌||◌, eqb, List, [], ◌∷◌, ◌++◌, length, get_or, take, drop, sym, refl, ap, ◌∙◌, subst, ⊎_elim, arith, lit≤, length-drop, take-append-drop}
+use Rattle.std.proofs.Common.{◌≡◌, ℕ, ◌+◌, ◌≤◌, cond, ◌||◌, eqb, List, [], ◌∷◌, ◌++◌, length, get_or, sym, refl, ap, ◌∙◌, ⊎_elim, arith, lit≤}
 use Rattle.std.proofs.lemmas.Bool.{cases_Bool, cond_both, eqb-true}
-use Rattle.std.proofs.lemmas.List.{drop_all, drop_more, drop-drop, length-take-le, append_assoc}
 use Rattle.trace_file.specs.declared.event.Event.{Event}
 use Rattle.trace_file.specs.declared.event.Event.TheVariants.{NmiEntry, NmiExit, IrqEntry, IrqExit, LocalIrqDisable, LocalIrqEnable, PreemptDisable, PreemptEnable, PreemptDisableSched, ScheduleEntry, SchedSwitch, ScheduleExit, PreemptEnableSched, NeedResched, SchedWaking}
 use Rattle.trace_file.specs.declared.event.Operand.{Operand}
 use Rattle.trace_file.specs.declared.event.Operand.TheVariants.{Nothing, Identifier as Id, Thread}
 use Rattle.trace_file.specs.declared.event.Timed.{Timed}
-use Rattle.trace_file.specs.declared.identifier.Identifier.{Identifier}
 use Rattle.trace_file.specs.Event.{command, with, operand_with, timed_with}
-use Rattle.trace_file.specs.File.{Command, little, from_little, operand_bytes, encoded, end_command, Proper, Sound, size}
-use Rattle.trace_file.specs.Reading.{Stands, chars, as_read, OperandAt, EventAt, Front}
+use Rattle.trace_file.specs.File.{Command, little, operand_bytes, encoded, Proper, Sound, size}
 
 -- how many bytes an operand takes
 abbrev pub operand_size : {I : Type 0} → Operand I → ℕ
@@ -125,15 +122,6 @@ same_bytes f e = other_bytes f (command e).0 (command e).1 (size_is e)
 pub encoded-with : {I : Type 0} (f : I → List ℕ) (t : Timed I) → encoded (timed_with f t) ≡ (command t.event).0 ∷ (little 4 t.gap ++ operand_bytes (operand_with f (command t.event).1))
 encoded-with f t = ap (λ c. c.0 ∷ (little 4 t.gap ++ operand_bytes c.1)) (command-with f t.event)
 
--- bytes that begin with these parts are the parts and what follows them
-pub parted : (bs : List ℕ) (b : ℕ) (w o : List ℕ) (k : ℕ) → 5 + k ≤ length bs → b ≡ get_or bs 0 0 → w ≡ take 4 (drop 1 bs) → o ≡ take k (drop 5 bs) → bs ≡ (b ∷ (w ++ o)) ++ drop (5 + k) bs
-parted bs b w o k fits first second third =
-    let head : bs ≡ get_or bs 0 0 ∷ drop 1 bs = drop_more bs 0 0 (omega arith) in
-    let mid : drop 1 bs ≡ take 4 (drop 1 bs) ++ drop 5 bs = sym (take-append-drop 4 (drop 1 bs)) ∙ ap (λ l. take 4 (drop 1 bs) ++ l) (drop-drop 4 1 bs) in
-    let tail : drop 5 bs ≡ take k (drop 5 bs) ++ drop (5 + k) bs = sym (take-append-drop k (drop 5 bs)) ∙ ap (λ l. take k (drop 5 bs) ++ l) (drop-drop k 5 bs) in
-    let grouped = append_assoc w o (drop (5 + k) bs) in
-    cc
-
 bytes_size : (o : Operand (List ℕ)) → Proper o → length (operand_bytes o) ≡ operand_size o
 bytes_size Nothing h = refl
 bytes_size (Id cs) h = h.0
@@ -141,39 +129,3 @@ bytes_size (Thread t) h = refl
 
 pub length-encoded : (c : Command) → Sound c → length (encoded c) ≡ 5 + operand_size (command c.event).1
 length-encoded c h = let e = bytes_size _ h.operand in omega arith
-
--- an operand that was read, as it stands in the file
-operand_stands : (at : ℕ) (bs : List ℕ) (o : Operand Identifier) → OperandAt at bs o → operand_bytes (operand_with chars o) ≡ take (operand_size o) (drop 5 bs)
-operand_stands at bs Nothing h = refl
-operand_stands at bs (Id i) h = h.part
-operand_stands at bs (Thread t) h = h.bytes
-
-operand_proper : (at : ℕ) (bs : List ℕ) (o : Operand Identifier) → 5 + operand_size o ≤ length bs → OperandAt at bs o → Proper (operand_with chars o)
-operand_proper at bs Nothing fits h = tt
-operand_proper at bs (Id i) fits h = (ap length h.part ∙ length-take-le 4 (drop 5 bs) (simp length-drop (omega arith)), h.form)
-operand_proper at bs (Thread t) fits h =
-    let e : t ≡ from_little (little 2 t) = h.says ∙ ap from_little (sym h.bytes) in
-    omega arith
-
--- a command whose parts were read stands there, whole and sound
-pub front : (at : ℕ) (bs : List ℕ) (t : Timed Identifier) (k : ℕ) → k ≡ size (get_or bs 0 0) → k ≤ length bs → (t.gap ≡ 0 → ⊥) → t.gap < 2 ^ 32 → Stands 4 t.gap (drop 1 bs) → EventAt at bs t.event → Front at bs t k
-front at bs t k is there some fits gap event =
-    let o : ℕ = operand_size (command t.event).1 in
-    let long : k ≡ 5 + o = is ∙ ap size (sym event.begins) ∙ size_is t.event in
-    let fit : 5 + o ≤ length bs = omega arith in
-    let said = command-with chars t.event in
-    let bytes = ap (λ c. operand_bytes c.1) said ∙ operand_stands at bs _ event.operand in
-    let sound : Sound (as_read t) = record {
-      ticks = omega arith;
-      fits = fits;
-      operand = subst (λ c. Proper c.1) (sym said) (operand_proper at bs _ fit event.operand);
-    } in
-    record {
-      stands = rw long (parted bs _ _ _ o fit (ap (λ c. c.0) said ∙ event.begins) gap.bytes bytes);
-      long = long ∙ sym (length-encoded (as_read t) sound ∙ ap (λ c. 5 + operand_size c.1) said ∙ ap (λ n. 5 + n) (size-with _ (command t.event).1));
-      sound = sound;
-      operand = event.operand;
-    }
-
-pub end_stands : (bs : List ℕ) (n : ℕ) → get_or bs 0 0 ≡ 0 → length bs ≡ 5 → Stands 4 n (drop 1 bs) → bs ≡ end_command n
-end_stands bs n first long h = parted bs 0 (little 4 n) [] 0 (omega arith) (sym first) h.bytes refl ∙ ap (λ l. end_command n ++ l) (drop_all 5 bs (omega arith))

@@ -1,7 +1,8 @@
 -- The commands of a file are determined by its bytes.
 use Rattle.std.proofs.Common.{◌≡◌, ℕ, suc, ◌+◌, ◌<◌, ◌≤◌, List, [], ◌∷◌, ◌++◌, length, take, drop, sym, refl, ap, ◌∙◌, subst, ⊎_elim, append_assoc, zero-add, arith, lit<, lit≤, length-append}
-use Rattle.std.specs.List.{flat_map, AllByRecursion}
+use Rattle.std.specs.List.{All, flat_map}
 use Rattle.std.proofs.lemmas.List.{take_at, drop_at}
+use Rattle.std.proofs.lemmas.List.Elements.{All-head, All-tail}
 use Rattle.trace_file.specs.declared.event.Event.{Event}
 use Rattle.trace_file.specs.declared.event.Event.TheVariants.{NmiEntry, NmiExit, IrqEntry, IrqExit, LocalIrqDisable, LocalIrqEnable, PreemptDisable, PreemptEnable, PreemptDisableSched, ScheduleEntry, SchedSwitch, ScheduleExit, PreemptEnableSched, NeedResched, SchedWaking}
 use Rattle.trace_file.specs.declared.event.Operand.{Operand}
@@ -143,15 +144,15 @@ refused_stuck : (n at : ℕ) (r : List ℕ) (p : Parts) → First (refusals n at
 refused_stuck n at r p f d t h few e =
     none_first (refusals n at (encoded d ++ t)) p (sound_passes n at d t h few) (subst (λ x. First (refusals n at x) p) e f)
 
-same_run : (cs ds : List Command) (n : ℕ) (r s : List ℕ) → AllByRecursion Sound cs → AllByRecursion Sound ds → n + length cs ≤ most_events → n + length ds ≤ most_events → Stuck (n + length cs) r → Stuck (n + length ds) s → flat_map encoded cs ++ r ≡ flat_map encoded ds ++ s → (cs ≡ ds) × (r ≡ s)
+same_run : (cs ds : List Command) (n : ℕ) (r s : List ℕ) → All Sound cs → All Sound ds → n + length cs ≤ most_events → n + length ds ≤ most_events → Stuck (n + length cs) r → Stuck (n + length ds) s → flat_map encoded cs ++ r ≡ flat_map encoded ds ++ s → (cs ≡ ds) × (r ≡ s)
 same_run [] [] n r s hc hd fc fd x y e = (refl, e)
-same_run [] (d ∷ ds) n r s hc hd fc fd x y e = absurd (x d (flat_map encoded ds ++ s) hd.0 (omega arith) (e ∙ append_assoc (encoded d) (flat_map encoded ds) s))
-same_run (c ∷ cs) [] n r s hc hd fc fd x y e = absurd (y c (flat_map encoded cs ++ r) hc.0 (omega arith) (sym e ∙ append_assoc (encoded c) (flat_map encoded cs) r))
+same_run [] (d ∷ ds) n r s hc hd fc fd x y e = absurd (x d (flat_map encoded ds ++ s) (All-head Sound d ds hd) (omega arith) (e ∙ append_assoc (encoded d) (flat_map encoded ds) s))
+same_run (c ∷ cs) [] n r s hc hd fc fd x y e = absurd (y c (flat_map encoded cs ++ r) (All-head Sound c cs hc) (omega arith) (sym e ∙ append_assoc (encoded c) (flat_map encoded cs) r))
 same_run (c ∷ cs) (d ∷ ds) n r s hc hd fc fd x y e =
-    let both = same_command c d _ _ hc.0 hd.0 (sym (append_assoc (encoded c) (flat_map encoded cs) r) ∙ e ∙ append_assoc (encoded d) (flat_map encoded ds) s) in
+    let both = same_command c d _ _ (All-head Sound c cs hc) (All-head Sound d ds hd) (sym (append_assoc (encoded c) (flat_map encoded cs) r) ∙ e ∙ append_assoc (encoded d) (flat_map encoded ds) s) in
     let p : n + suc (length cs) ≡ suc n + length cs = omega arith in
     let q : n + suc (length ds) ≡ suc n + length ds = omega arith in
-    let rest = same_run cs ds (suc n) r s hc.1 hd.1 (omega arith) (omega arith) (subst (λ k. Stuck k r) p x) (subst (λ k. Stuck k s) q y) both.1 in
+    let rest = same_run cs ds (suc n) r s (All-tail Sound c cs hc) (All-tail Sound d ds hd) (omega arith) (omega arith) (subst (λ k. Stuck k r) p x) (subst (λ k. Stuck k s) q y) both.1 in
     ((λ i. both.0 i ∷ rest.0 i), rest.1)
 
 -- The commands that a file reads as are determined by its bytes.

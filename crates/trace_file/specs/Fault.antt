@@ -1,5 +1,6 @@
 -- The numbers that faults carry.
-use Rattle.std.specs.Prelude.{◌≡◌, ℕ, ◌⊎◌, List, [], ◌∷◌, ◌++◌, codes, decimal}
+use Rattle.std.specs.Prelude.{◌≡◌, ℕ, ◌⊎◌, List, [], ◌∷◌, ◌++◌, Some, None, Option, codes, decimal}
+use Rattle.std.specs.Option.{option_map_or}
 use Rattle.trace_file.specs.declared.fault.Fault.{Fault}
 use Rattle.trace_file.specs.declared.fault.Parts.{Parts}
 use Rattle.trace_file.specs.declared.fault.Layer.{Layer}
@@ -72,23 +73,27 @@ refusal_word NoBound = codes "no bound"
 refusal_word NoSpace = codes "no space"
 refusal_word Oversize = codes "oversize"
 
+-- the law that an event out of turn would break
+abbrev pub refusal_law : Refusal → Option Ground
+refusal_law Truncated = None
+refusal_law UnknownCommand = None
+refusal_law StuckClock = None
+refusal_law BadIdentifier = None
+refusal_law Miscount = None
+refusal_law Trailing = None
+refusal_law (OutOfTurn g) = Some g
+refusal_law Overlong = None
+refusal_law LogFull = None
+refusal_law TooMany = None
+refusal_law NoSuchModel = None
+refusal_law BadHorizon = None
+refusal_law NoPass = None
+refusal_law NoBound = None
+refusal_law NoSpace = None
+refusal_law Oversize = None
+
 abbrev pub refusal_ground : Refusal → ℕ
-refusal_ground Truncated = 0
-refusal_ground UnknownCommand = 0
-refusal_ground StuckClock = 0
-refusal_ground BadIdentifier = 0
-refusal_ground Miscount = 0
-refusal_ground Trailing = 0
-refusal_ground (OutOfTurn g) = ground_number g
-refusal_ground Overlong = 0
-refusal_ground LogFull = 0
-refusal_ground TooMany = 0
-refusal_ground NoSuchModel = 0
-refusal_ground BadHorizon = 0
-refusal_ground NoPass = 0
-refusal_ground NoBound = 0
-refusal_ground NoSpace = 0
-refusal_ground Oversize = 0
+refusal_ground r = option_map_or ground_number (refusal_law r) 0
 
 -- the parts that are these four numbers
 abbrev pub four_numbers : (layer : ℕ) (number : ℕ) (ground : ℕ) (place : ℕ) → Parts

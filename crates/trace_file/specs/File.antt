@@ -1,6 +1,6 @@
 -- Trace files: the bytes of a command, what a file reads as, and what is refused of one.
-use Rattle.std.specs.Prelude.{◌≡◌, ℕ, zero, suc, ◌+◌, ◌*◌, ◌/◌, ◌%◌, ◌^◌, ◌<◌, ◌≤◌, cond, ◌||◌, List, [], ◌∷◌, ◌++◌, map, length, take, drop, ◌==◌, ◌≢◌, slice_index}
-use Rattle.std.specs.List.{flat_map, AllByRecursion}
+use Rattle.std.specs.Prelude.{◌≡◌, ℕ, zero, suc, ◌+◌, ◌*◌, ◌/◌, ◌%◌, ◌^◌, ◌<◌, ◌≤◌, cond, ◌||◌, List, [], ◌∷◌, ◌++◌, map, length, take, drop, All, ◌==◌, ◌≢◌, slice_index}
+use Rattle.std.specs.List.{flat_map}
 use Rattle.trace_file.specs.declared.event.Operand.{Operand}
 use Rattle.trace_file.specs.declared.event.Operand.TheVariants.{Nothing, Identifier, Thread}
 use Rattle.trace_file.specs.declared.event.Timed.{Timed}
@@ -56,7 +56,7 @@ pub record Sound (c : Command) : Type 0 where
 -- the bytes are these commands, one after another, and the end command with their number
 pub record Reads (bs : List ℕ) (cs : List Command) : Type 0 where
   pub whole : bs ≡ flat_map encoded cs ++ end_command (length cs)
-  pub sound : AllByRecursion Sound cs
+  pub sound : All Sound cs
   pub few : length cs ≤ most_events
 
 -- the event that a command says, with the number of its identifier
@@ -98,6 +98,6 @@ pub record Refuses (bs : List ℕ) (p : Parts) : Type 0 where
   pub commands : List Command
   pub rest : List ℕ
   pub whole : bs ≡ flat_map encoded commands ++ rest
-  pub sound : AllByRecursion Sound commands
+  pub sound : All Sound commands
   pub few : length commands ≤ most_events
   pub first : First (refusals (length commands) (length (flat_map encoded commands)) rest) p

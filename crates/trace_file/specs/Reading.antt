@@ -1,6 +1,6 @@
 -- What the reader does with each call.
-use Rattle.std.specs.Prelude.{◌≡◌, ℕ, ◌+◌, ◌<◌, ◌≤◌, List, [], ◌∷◌, ◌++◌, length, take, drop, Some, None, Ok, Err, Option, Result, slice_index}
-use Rattle.std.specs.List.{flat_map, AllByRecursion}
+use Rattle.std.specs.Prelude.{◌≡◌, ℕ, ◌+◌, ◌<◌, ◌≤◌, List, [], ◌∷◌, ◌++◌, length, take, drop, All, Some, None, Ok, Err, Option, Result, slice_index}
+use Rattle.std.specs.List.{flat_map}
 use Rattle.trace_file.specs.declared.event.Event.{Event}
 use Rattle.trace_file.specs.declared.event.Operand.{Operand}
 use Rattle.trace_file.specs.declared.event.Operand.TheVariants.{Nothing, Identifier as Id, Thread}
@@ -74,7 +74,7 @@ Next r (Err f) s = First (refusals r.events r.at r.rest.now) (parts f) × (s ≡
 -- from the start of a file the reader has read these commands
 pub record HasRead (file : List ℕ) (cs : List Command) (r : Reader) : Type 0 where
   pub whole : file ≡ flat_map encoded cs ++ r.rest.now
-  pub sound : AllByRecursion Sound cs
+  pub sound : All Sound cs
   pub few : length cs ≤ most_events
   pub at : r.at ≡ length (flat_map encoded cs)
   pub events : r.events ≡ length cs

@@ -1,9 +1,12 @@
 // The events of a trace: the command table, which gives each its byte, its name and its operand.
-ghost use Rattle.std.specs.Prelude.{◌≡◌};
-ghost use Rattle.trace_file.specs.Event.{command, name};
+ghost use Rattle.std.specs.Prelude.{◌≡◌, Some};
+ghost use Rattle.trace_file.specs.Event.{command, name, with, shown};
+
+use crate::identifier::Identifier;
+use std::fmt;
 
 // An event whose interrupt identifier is an `I`.
-#[derive(Clone, Copy, PartialEq, Debug)]
+#[derive(Clone, Copy, Debug, PartialEq, Eq)]
 pub enum Event<I> {
     NmiEntry,
     NmiExit,
@@ -23,7 +26,7 @@ pub enum Event<I> {
 }
 
 // What follows the gap of an event command.
-#[derive(Clone, Copy)]
+#[derive(Clone, Copy, Debug, PartialEq, Eq)]
 pub enum Operand<I> {
     Nothing,
     Identifier(I),
@@ -77,8 +80,48 @@ impl<I: Copy> Event<I> {
     }
 }
 
+// An event that was read, with the number of its identifier.
+impl From<Event<Identifier<'_>>> for Event<u32> {
+    ghost from_gives = { λ read event. event ≡ with (λ i. i.number) read };
+
+    fn from(read: Event<Identifier<'_>>) -> Event<u32> {
+        match read {
+            Event::NmiEntry => Event::NmiEntry,
+            Event::NmiExit => Event::NmiExit,
+            Event::IrqEntry(identifier) => Event::IrqEntry(identifier.number),
+            Event::IrqExit => Event::IrqExit,
+            Event::LocalIrqDisable => Event::LocalIrqDisable,
+            Event::LocalIrqEnable => Event::LocalIrqEnable,
+            Event::PreemptDisable => Event::PreemptDisable,
+            Event::PreemptEnable => Event::PreemptEnable,
+            Event::PreemptDisableSched => Event::PreemptDisableSched,
+            Event::ScheduleEntry => Event::ScheduleEntry,
+            Event::SchedSwitch(thread) => Event::SchedSwitch(thread),
+            Event::ScheduleExit => Event::ScheduleExit,
+            Event::PreemptEnableSched => Event::PreemptEnableSched,
+            Event::NeedResched => Event::NeedResched,
+            Event::SchedWaking(thread) => Event::SchedWaking(thread),
+        }
+    }
+}
+
+// An event is written as its name and, after a comma, its operand.
+impl<I: Copy + fmt::Display> fmt::Display for Event<I> {
+    ghost output = { shown I.output };
+
+    fn fmt<W: fmt::Write>(&self, f: &mut fmt::Formatter<W>) -> fmt::Result {
+        let name = self.name();
+        let (_, operand) = self.command();
+        match operand {
+            Operand::Nothing => write!(f, "{name}"),
+            Operand::Identifier(identifier) => write!(f, "{name},{identifier}"),
+            Operand::Thread(thread) => write!(f, "{name},{thread}"),
+        }
+    }
+}
+
 // An event with the ticks since the event before it.
-#[derive(Clone, Copy)]
+#[derive(Clone, Copy, Debug, PartialEq, Eq)]
 pub struct Timed<I> {
     pub gap: u32,
     pub event: Event<I>,

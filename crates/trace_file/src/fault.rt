@@ -1,12 +1,12 @@
 // What a refusal carries: the layer that met it, which refusal it is and on what ground, and its place.
 ghost use Rattle.std.specs.Prelude.{◌≡◌, Some};
-ghost use Rattle.trace_file.specs.declared.fault.Layer.TheVariants.{File};
-ghost use Rattle.trace_file.specs.Fault.{layer_number, ground_number, refusal_number, refusal_word, refusal_ground, parts, line_of};
+ghost use Rattle.trace_file.specs.Fault.{layer_number, ground_number, refusal_number, refusal_word, refusal_law, parts, line_of};
 
+use std::error::Error;
 use std::fmt;
 
 // The part of the product that refuses.
-#[derive(Clone, Copy)]
+#[derive(Clone, Copy, Debug, PartialEq, Eq)]
 pub enum Layer {
     File = 1,
     Rules = 2,
@@ -16,15 +16,28 @@ pub enum Layer {
 }
 
 impl Layer {
-    fn number(self) -> u8
-        ensures { result ≡ layer_number self }
+    // What this layer refuses, at a place.
+    pub fn refuses(self, refusal: Refusal, place: usize) -> Fault
+        ensures { result ≡ record { layer = self; refusal = refusal; place = place } }
     {
-        self as u8
+        Fault {
+            layer: self,
+            refusal,
+            place,
+        }
+    }
+}
+
+impl From<Layer> for u8 {
+    ghost from_gives = { λ layer n. n ≡ layer_number layer };
+
+    fn from(layer: Layer) -> u8 {
+        layer as u8
     }
 }
 
 // The law of the kernel that an event out of turn would break.
-#[derive(Clone, Copy)]
+#[derive(Clone, Copy, Debug, PartialEq, Eq)]
 pub enum Ground {
     NmiInTurn = 1,
     ThreadIrqsInTurn = 2,
@@ -46,15 +59,15 @@ pub enum Ground {
     PreemptionHandedBack = 201,
 }
 
-impl Ground {
-    fn number(self) -> u8
-        ensures { result ≡ ground_number self }
-    {
-        self as u8
+impl From<Ground> for u8 {
+    ghost from_gives = { λ law n. n ≡ ground_number law };
+
+    fn from(law: Ground) -> u8 {
+        law as u8
     }
 }
 
-#[derive(Clone, Copy)]
+#[derive(Clone, Copy, Debug, PartialEq, Eq)]
 pub enum Refusal {
     Truncated,
     UnknownCommand,
@@ -75,29 +88,6 @@ pub enum Refusal {
 }
 
 impl Refusal {
-    fn number(self) -> u8
-        ensures { result ≡ refusal_number self }
-    {
-        match self {
-            Refusal::Truncated => 1,
-            Refusal::UnknownCommand => 2,
-            Refusal::StuckClock => 3,
-            Refusal::BadIdentifier => 4,
-            Refusal::Miscount => 5,
-            Refusal::Trailing => 6,
-            Refusal::OutOfTurn(_) => 7,
-            Refusal::Overlong => 8,
-            Refusal::LogFull => 9,
-            Refusal::TooMany => 10,
-            Refusal::NoSuchModel => 11,
-            Refusal::BadHorizon => 12,
-            Refusal::NoPass => 13,
-            Refusal::NoBound => 14,
-            Refusal::NoSpace => 15,
-            Refusal::Oversize => 16,
-        }
-    }
-
     pub fn word(self) -> &'static str
         ensures { result.now ≡ refusal_word self }
     {
@@ -121,18 +111,52 @@ impl Refusal {
         }
     }
 
-    fn ground(self) -> u8
-        ensures { result ≡ refusal_ground self }
+    // The law that an event out of turn would break. No other refusal has one.
+    fn ground(self) -> Option<Ground>
+        ensures { result ≡ refusal_law self }
     {
         match self {
-            Refusal::OutOfTurn(ground) => ground.number(),
-            _ => 0,
+            Refusal::OutOfTurn(law) => Some(law),
+            _ => None,
         }
     }
 }
 
+impl From<Refusal> for u8 {
+    ghost from_gives = { λ refusal n. n ≡ refusal_number refusal };
+
+    fn from(refusal: Refusal) -> u8 {
+        match refusal {
+            Refusal::Truncated => 1,
+            Refusal::UnknownCommand => 2,
+            Refusal::StuckClock => 3,
+            Refusal::BadIdentifier => 4,
+            Refusal::Miscount => 5,
+            Refusal::Trailing => 6,
+            Refusal::OutOfTurn(_) => 7,
+            Refusal::Overlong => 8,
+            Refusal::LogFull => 9,
+            Refusal::TooMany => 10,
+            Refusal::NoSuchModel => 11,
+            Refusal::BadHorizon => 12,
+            Refusal::NoPass => 13,
+            Refusal::NoBound => 14,
+            Refusal::NoSpace => 15,
+            Refusal::Oversize => 16,
+        }
+    }
+}
+
+impl fmt::Display for Refusal {
+    ghost output = { λ refusal. Some (refusal_word refusal) };
+
+    fn fmt<W: fmt::Write>(&self, f: &mut fmt::Formatter<W>) -> fmt::Result {
+        f.write_str(self.word())
+    }
+}
+
 // A refusal, with the layer that met it and its place.
-#[derive(Clone, Copy)]
+#[derive(Clone, Copy, Debug, PartialEq, Eq)]
 pub struct Fault {
     pub layer: Layer,
     pub refusal: Refusal,
@@ -140,7 +164,7 @@ pub struct Fault {
 }
 
 // A fault in numbers.
-#[derive(Clone, Copy, PartialEq, Debug)]
+#[derive(Clone, Copy, Debug, PartialEq, Eq)]
 pub struct Parts {
     pub layer: u8,
     pub number: u8,
@@ -148,26 +172,15 @@ pub struct Parts {
     pub place: usize,
 }
 
-impl Fault {
-    // What is refused of a file, at a place of it.
-    pub(crate) fn in_file(refusal: Refusal, place: usize) -> Fault
-        ensures { result ≡ record { layer = File; refusal = refusal; place = place } }
-    {
-        Fault {
-            layer: Layer::File,
-            refusal,
-            place,
-        }
-    }
+impl From<Fault> for Parts {
+    ghost from_gives = { λ fault p. p ≡ parts fault };
 
-    pub fn parts(self) -> Parts
-        ensures { result ≡ parts self }
-    {
+    fn from(fault: Fault) -> Parts {
         Parts {
-            layer: self.layer.number(),
-            number: self.refusal.number(),
-            ground: self.refusal.ground(),
-            place: self.place,
+            layer: fault.layer.into(),
+            number: fault.refusal.into(),
+            ground: fault.refusal.ground().map_or(0, u8::from),
+            place: fault.place,
         }
     }
 }
@@ -181,13 +194,9 @@ impl fmt::Display for Fault {
             number,
             ground,
             place,
-        } = self.parts();
+        } = Parts::from(*self);
         write!(f, "refused,{layer},{number},{ground},{place}")
     }
 }
 
-impl fmt::Debug for Fault {
-    fn fmt<W: fmt::Write>(&self, f: &mut fmt::Formatter<W>) -> fmt::Result {
-        self.parts().fmt(f)
-    }
-}
+impl Error for Fault {}

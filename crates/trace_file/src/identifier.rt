@@ -1,12 +1,9 @@
 // An interrupt's identifier: four characters, digits with blanks all before or all after them.
-ghost use Rattle.std.specs.Prelude.{◌≡◌, ℕ, ◌+◌, ◌^◌, ◌<◌, ◌≤◌, length, take, drop, MatchOption, MatchResult, ◌≢◌, slice_index};
+ghost use Rattle.std.specs.Prelude.{◌≡◌, ℕ, Some, decimal, ◌+◌, ◌^◌, ◌<◌, ◌≤◌, length, take, drop, MatchOption, ◌≢◌, slice_index};
 ghost use Rattle.trace_file.specs.Identifier.{kind, Run, Form, number, width};
 ghost use Rattle.trace_file.specs.declared.identifier.Kind.TheVariants.{Other};
-ghost use Rattle.trace_file.specs.Fault.{parts};
-ghost use Rattle.trace_file.specs.File.{in_file};
-ghost use Rattle.trace_file.specs.Reading.{IdentifierAt};
 
-use crate::fault::{Fault, Refusal};
+use std::fmt;
 
 // How many characters an identifier has.
 pub const WIDTH: usize = 4;
@@ -15,15 +12,24 @@ pub const WIDTH: usize = 4;
 pub const GREATEST: u32 = 9_999;
 
 // An identifier as it stands in a file: its characters, their place, and the number that they say.
-#[derive(Clone, Copy)]
+#[derive(Clone, Copy, Debug)]
 pub struct Identifier<'a> {
     pub chars: &'a [u8],
     pub place: usize,
     pub number: u32,
 }
 
+// An identifier is written as its number.
+impl fmt::Display for Identifier<'_> {
+    ghost output = { λ i. Some (decimal i.number) };
+
+    fn fmt<W: fmt::Write>(&self, f: &mut fmt::Formatter<W>) -> fmt::Result {
+        write!(f, "{}", self.number)
+    }
+}
+
 // What a character can be to an identifier.
-#[derive(Clone, Copy, PartialEq)]
+#[derive(Clone, Copy, Debug, PartialEq, Eq)]
 pub enum Kind {
     Blank,
     Digit,
@@ -45,11 +51,10 @@ fn run_end(chars: &[u8], from: usize, of: Kind) -> usize
     requires { from ≤ length chars.now }
     ensures { Run chars.now from «of» result }
 {
-    let mut end = from;
-    while end < chars.len() && kind_of(chars[end]) == of {
-        end += 1;
-    }
-    end
+    from + chars[from..]
+        .iter()
+        .take_while(|c| kind_of(**c) == of)
+        .count()
 }
 
 // The number that the digits say. The characters are known to be digits and blanks.
@@ -61,14 +66,14 @@ fn value(chars: &[u8]) -> u32
     let mut n = 0;
     for c in chars {
         if *c != b' ' {
-            n = n * 10 + (*c - b'0') as u32;
+            n = n * 10 + u32::from(*c - b'0');
         }
     }
     n
 }
 
 // The number of an identifier, if the characters are one.
-fn number_of(chars: &[u8]) -> Option<u32>
+pub(crate) fn number_of(chars: &[u8]) -> Option<u32>
     requires { length chars.now ≤ width }
     ensures { MatchOption result (Form chars.now → ⊥) (λ n. Form chars.now × (n ≡ number chars.now)) }
 {
@@ -82,23 +87,4 @@ fn number_of(chars: &[u8]) -> Option<u32>
         return None;
     }
     Some(value(chars))
-}
-
-impl<'a> Identifier<'a> {
-    // The identifier of a command whose nine bytes stand at the front, at a place of a file.
-    pub(crate) fn read(bytes: &'a [u8], at: usize) -> Result<Identifier<'a>, Fault>
-        requires there { 9 ≤ length bytes.now }
-        requires within { at + length bytes.now < 2 ^ 64 }
-        ensures { MatchResult result (IdentifierAt at bytes.now) (λ f. (Form (take width (drop 5 bytes.now)) → ⊥) × (parts f ≡ in_file 4 at)) }
-    {
-        let chars = &bytes[5..5 + WIDTH];
-        let Some(number) = number_of(chars) else {
-            return Err(Fault::in_file(Refusal::BadIdentifier, at));
-        };
-        Ok(Identifier {
-            chars,
-            place: at + 5,
-            number,
-        })
-    }
 }

@@ -6,6 +6,7 @@ pub mod event;
 pub mod fault;
 pub mod identifier;
 mod input;
+mod little;
 pub mod reader;
 mod reading;
 

@@ -5,7 +5,6 @@ ghost use Rattle.trace_file.specs.Fault.{parts};
 ghost use Rattle.trace_file.specs.File.{Command, Reads, Refuses};
 ghost use Rattle.trace_file.specs.Reading.{HasRead, Next, Says};
 
-use crate::command::command_at;
 use crate::event::Timed;
 use crate::fault::Fault;
 use crate::identifier::Identifier;
@@ -27,7 +26,7 @@ impl<'a> Reader<'a> {
         ensures step { Next self.old result self.new }
         ensures law { (file : List ℕ) (cs : List Command) → HasRead file cs self.old → Says file cs result self.new }
     {
-        let Some((command, size)) = command_at(self.rest, self.at, self.events)? else {
+        let Some((command, size)) = self.command()? else {
             return Ok(None);
         };
         let (_, rest) = self.rest.split_at(size);

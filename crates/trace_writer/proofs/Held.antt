@@ -1,8 +1,8 @@
 -- What a writer's bytes hold, from one call to the next.
 use Rattle.std.proofs.Common.{◌≡◌, ℕ, ◌+◌, ◌<◌, ◌≤◌, List, [], ◌∷◌, ◌++◌, map, length, take, sym, refl, ap, ◌∙◌, subst, arith}
 use mathlib.Core.Path.{fun_ext}
-use Rattle.std.specs.List.{flat_map, AllByRecursion}
-use Rattle.std.proofs.ByRecursion.{All-push, All-map, All-weaker}
+use Rattle.std.specs.List.{All, flat_map}
+use Rattle.std.proofs.lemmas.List.Elements.{All-push, All-map, All-weaker}
 use Rattle.std.proofs.lemmas.List.{flat_map_more, length_push, length-map, map_push}
 use Rattle.trace_file.specs.declared.event.Event.{Event}
 use Rattle.trace_file.specs.declared.event.Operand.{Operand}
@@ -38,7 +38,7 @@ back e = with-with padded number e ∙ ap (λ f. with f e) (fun_ext number-padde
 pub meant_for : (e : Timed ℕ) → meant (command_for e) ≡ e
 meant_for e = λ i. record { gap = e.gap; event = back e.event i }
 
-pub all_sound : (es : List (Timed ℕ)) → AllByRecursion Writable es → AllByRecursion Sound (map command_for es)
+pub all_sound : (es : List (Timed ℕ)) → All Writable es → All Sound (map command_for es)
 all_sound es h = All-map Sound command_for es (All-weaker Writable (λ e. Sound (command_for e)) sound_for es h)
 
 pub all_meant : (es : List (Timed ℕ)) → map meant (map command_for es) ≡ es
@@ -49,7 +49,7 @@ pub bytes_push : (es : List (Timed ℕ)) (e : Timed ℕ) → bytes_of es ++ enco
 bytes_push es e = flat_map_more encoded [] (map command_for es) (command_for e) ∙ ap (flat_map encoded) (sym (map_push command_for es e))
 
 -- the commands of some events and the end command are a file of these events
-pub file_of : (es : List (Timed ℕ)) → AllByRecursion Writable es → length es ≤ most_events → FileOf (bytes_of es ++ end_command (length es)) es
+pub file_of : (es : List (Timed ℕ)) → All Writable es → length es ≤ most_events → FileOf (bytes_of es ++ end_command (length es)) es
 file_of es h few = record {
   commands = map command_for es;
   reads = record {
@@ -61,20 +61,20 @@ file_of es h few = record {
 }
 
 module _ (w : Writer) (out : List ℕ) (es : List (Timed ℕ)) (holds : Holds w out es) where
-  pub put_held : (e : Timed ℕ) (v : Writer) (k : ℕ) (after : List ℕ) → Admitted w.events w.at (length out) e k → v.at ≡ w.at + length (encoded (command_for e)) → v.events ≡ w.events + 1 → after ≡ written out w.at (encoded (command_for e)) → Holds v after (es ++ e ∷ [])
-  put_held e v k after able at events bytes =
+  pub put_held : (e : Timed ℕ) (v : Writer) (after : List ℕ) → Admitted w.extent (length out) e v.extent → after ≡ written out w.extent.at (encoded (command_for e)) → Holds v after (es ++ e ∷ [])
+  put_held e v after able bytes =
       let bs = encoded (command_for e) in
-      let more : w.events < most_events = omega (arith, able.none.0) in
-      let room : w.at + length bs ≤ length out = omega (arith, able.none.1.1.1.0) in
+      let more : w.extent.events < most_events = omega (arith, able.none.0) in
+      let room : w.extent.at + length bs ≤ length out = omega (arith, able.none.1.1.1.0) in
       record {
-        within = omega (arith, at, ap length bytes, length-written out w.at bs room);
-        bytes = ap (λ n. take n after) at ∙ ap (take (w.at + length bs)) bytes ∙ take_written out w.at bs holds.within ∙ ap (λ l. l ++ bs) holds.bytes ∙ bytes_push es e;
+        within = omega (arith, able.at, ap length bytes, length-written out w.extent.at bs room);
+        bytes = ap (λ n. take n after) able.at ∙ ap (take (w.extent.at + length bs)) bytes ∙ take_written out w.extent.at bs holds.within ∙ ap (λ l. l ++ bs) holds.bytes ∙ bytes_push es e;
         writable = All-push Writable es e holds.writable able.writable;
         few = simp length_push (omega (arith, holds.events));
-        events = events ∙ ap (λ n. n + 1) holds.events ∙ sym (length_push es e);
+        events = able.events ∙ ap (λ n. n + 1) holds.events ∙ sym (length_push es e);
       }
 
-  pub closed_held : FileOf (take (w.at + 5) (written out w.at (end_command w.events))) es
+  pub closed_held : FileOf (take (w.extent.at + 5) (written out w.extent.at (end_command w.extent.events))) es
   closed_held =
-      let bytes = take_written out w.at (end_command w.events) holds.within ∙ ap (λ l. l ++ end_command w.events) holds.bytes ∙ ap (λ n. bytes_of es ++ end_command n) holds.events in
+      let bytes = take_written out w.extent.at (end_command w.extent.events) holds.within ∙ ap (λ l. l ++ end_command w.extent.events) holds.bytes ∙ ap (λ n. bytes_of es ++ end_command n) holds.events in
       subst (λ bs. FileOf bs es) (sym bytes) (file_of es holds.writable holds.few)

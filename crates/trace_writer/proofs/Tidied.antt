@@ -1,8 +1,8 @@
 -- Commands with their identifiers in the writer's padding.
 use Rattle.std.proofs.Common.{◌≡◌, ℕ, ◌+◌, ◌-◌, ◌<◌, ◌≤◌, List, [], ◌∷◌, ◌++◌, map, length, get_or, take, sym, refl, ap, ◌∙◌, subst, ⊎_elim, append_assoc, zero-add, arith, length-append}
 use mathlib.Core.Path.{fun_ext}
-use Rattle.std.specs.List.{flat_map, AllByRecursion}
-use Rattle.std.proofs.ByRecursion.{All-map, All-weaker}
+use Rattle.std.specs.List.{All, flat_map}
+use Rattle.std.proofs.lemmas.List.Elements.{All-head, All-tail, All-map, All-weaker}
 use Rattle.std.proofs.lemmas.List.{append_cancel_left, same_from_push, length_push, flat_map_more, map_push, get_or_append_left, get_or-append_right, length-map}
 use Rattle.std.proofs.lemmas.Bool.{cases_lt}
 use Rattle.trace_file.specs.declared.event.Operand.{Operand}
@@ -73,29 +73,30 @@ further c cs k le i = record {
   to = omega (arith, length-append (encoded c) (flat_map encoded i.before), i.to);
 }
 
-alone_run : (cs : List Command) (t : List ℕ) (k : ℕ) → AllByRecursion Sound cs → (InIdentifier cs k → ⊥) → get_or (flat_map encoded (map tidied cs) ++ t) k 0 ≡ get_or (flat_map encoded cs ++ t) k 0
+alone_run : (cs : List Command) (t : List ℕ) (k : ℕ) → All Sound cs → (InIdentifier cs k → ⊥) → get_or (flat_map encoded (map tidied cs) ++ t) k 0 ≡ get_or (flat_map encoded cs ++ t) k 0
 alone_run [] t k h apart = refl
 alone_run (c ∷ cs) t k h apart =
-    let long = long_tidied c h.0 in
-    let size = length-encoded c h.0 in
+    let first = All-head Sound c cs h in
+    let long = long_tidied c first in
+    let size = length-encoded c first in
     let new = append_assoc (encoded (tidied c)) (flat_map encoded (map tidied cs)) t in
     let old = append_assoc (encoded c) (flat_map encoded cs) t in
     ⊎_elim
     (λ lt. ap (λ l. get_or l k 0) new
     ∙ get_or_append_left (encoded (tidied c)) _ 0 k (omega arith)
-    ∙ alone_one c k h.0 lt (λ e ge. apart (record { before = []; at = c; after = cs; whole = refl; entry = e; from = ge; to = omega (arith, size ∙ sym (size_is c.event) ∙ ap type_size e) }))
+    ∙ alone_one c k first lt (λ e ge. apart (record { before = []; at = c; after = cs; whole = refl; entry = e; from = ge; to = omega (arith, size ∙ sym (size_is c.event) ∙ ap type_size e) }))
     ∙ sym (ap (λ l. get_or l k 0) old ∙ get_or_append_left (encoded c) _ 0 k lt))
     (λ ge. ap (λ l. get_or l k 0) new
     ∙ get_or-append_right (encoded (tidied c)) _ (length (encoded c)) k 0 long ge
-    ∙ alone_run cs t (k - length (encoded c)) h.1 (λ i. apart (further c cs k ge i))
+    ∙ alone_run cs t (k - length (encoded c)) (All-tail Sound c cs h) (λ i. apart (further c cs k ge i))
     ∙ sym (ap (λ l. get_or l k 0) old ∙ get_or-append_right (encoded c) _ (length (encoded c)) k 0 refl ge))
     (cases_lt k (length (encoded c)))
 
-pub long_run : (cs : List Command) → AllByRecursion Sound cs → length (flat_map encoded (map tidied cs)) ≡ length (flat_map encoded cs)
+pub long_run : (cs : List Command) → All Sound cs → length (flat_map encoded (map tidied cs)) ≡ length (flat_map encoded cs)
 long_run [] h = refl
 long_run (c ∷ cs) h =
     length-append (encoded (tidied c)) (flat_map encoded (map tidied cs))
-    ∙ (λ i. long_tidied c h.0 i + long_run cs h.1 i)
+    ∙ (λ i. long_tidied c (All-head Sound c cs h) i + long_run cs (All-tail Sound c cs h) i)
     ∙ sym (length-append (encoded c) (flat_map encoded cs))
 
 map-map : {X : Type 0} (f : Command → X) (cs : List Command) → ((c : Command) → f (tidied c) ≡ f c) → map f (map tidied cs) ≡ map f cs

@@ -1,18 +1,24 @@
 -- What is written of events that are given all at once.
-use Rattle.std.specs.Prelude.{◌≡◌, ℕ, ◌+◌, ◌≤◌, ◌⊎◌, List, ◌∷◌, ◌++◌, length, take, Ok, Err, Result}
-use Rattle.std.specs.List.{AllByRecursion}
+use Rattle.std.specs.Prelude.{◌≡◌, ℕ, ◌+◌, ◌≤◌, ◌⊎◌, List, ◌∷◌, ◌++◌, length, take, All, Ok, Err, Result}
 use Rattle.trace_file.specs.declared.event.Timed.{Timed}
 use Rattle.trace_file.specs.declared.fault.Fault.{Fault}
 use Rattle.trace_file.specs.declared.fault.Parts.{Parts}
 use Rattle.trace_file.specs.Fault.{First, NoneOf, parts}
 use Rattle.trace_file.specs.File.{FileOf, end_command, most_events}
+use Rattle.trace_writer.specs.declared.extent.Extent.{Extent}
 use Rattle.trace_writer.specs.Writing.{written, bytes_of, Writable, put_refusals, close_refusals}
 
 -- all these events can be put where there are room bytes
 pub record Fitting (room : ℕ) (es : List (Timed ℕ)) : Type 0 where
-  pub writable : AllByRecursion Writable es
+  pub writable : All Writable es
   pub few : length es ≤ most_events
   pub fits : length (bytes_of es) ≤ room
+
+-- all these events can be put where there are room bytes, and the file comes so far with them
+pub record Reaches (room : ℕ) (es : List (Timed ℕ)) (x : Extent) : Type 0 where
+  pub fitting : Fitting room es
+  pub at : x.at ≡ length (bytes_of es)
+  pub events : x.events ≡ length es
 
 -- after some events that can be put comes one that is refused
 pub record StopsAt (room : ℕ) (es : List (Timed ℕ)) (p : Parts) : Type 0 where

@@ -1,6 +1,5 @@
 -- What an open writer does with each call.
-use Rattle.std.specs.Prelude.{◌≡◌, ℕ, ◌+◌, ◌≤◌, List, [], ◌∷◌, ◌++◌, length, take, Ok, Err, Result}
-use Rattle.std.specs.List.{AllByRecursion}
+use Rattle.std.specs.Prelude.{◌≡◌, ℕ, ◌+◌, ◌≤◌, List, [], ◌∷◌, ◌++◌, length, take, All, Ok, Err, Result}
 use Rattle.trace_file.specs.declared.event.Timed.{Timed}
 use Rattle.trace_file.specs.declared.fault.Fault.{Fault}
 use Rattle.trace_file.specs.Fault.{First, NoneOf, parts}
@@ -11,23 +10,23 @@ use Rattle.trace_writer.specs.Writing.{written, command_for, bytes_of, Writable,
 
 -- the bytes written so far hold these events
 pub record Holds (w : Writer) (out : List ℕ) (es : List (Timed ℕ)) : Type 0 where
-  pub within : w.at ≤ length out
-  pub bytes : take w.at out ≡ bytes_of es
-  pub writable : AllByRecursion Writable es
+  pub within : w.extent.at ≤ length out
+  pub bytes : take w.extent.at out ≡ bytes_of es
+  pub writable : All Writable es
   pub few : length es ≤ most_events
-  pub events : w.events ≡ length es
+  pub events : w.extent.events ≡ length es
 
 -- an event was put: the writer and the output bytes, all of them, afterwards
 pub record HasPut (w : Writer) (out : List ℕ) (e : Timed ℕ) (n : ℕ) (v : Writer) (after : List ℕ) : Type 0 where
-  pub none : NoneOf (put_refusals w.events w.at (length out) e)
-  pub answer : n ≡ w.events + 1
-  pub events : v.events ≡ w.events + 1
-  pub at : v.at ≡ w.at + length (encoded (command_for e))
-  pub bytes : after ≡ written out w.at (encoded (command_for e))
+  pub none : NoneOf (put_refusals w.extent.events w.extent.at (length out) e)
+  pub answer : n ≡ w.extent.events + 1
+  pub events : v.extent.events ≡ w.extent.events + 1
+  pub at : v.extent.at ≡ w.extent.at + length (encoded (command_for e))
+  pub bytes : after ≡ written out w.extent.at (encoded (command_for e))
 
 abbrev pub Put : Writer → List ℕ → Timed ℕ → Result ℕ Fault → Writer → List ℕ → Type 0
 Put w out e (Ok n) v after = HasPut w out e n v after
-Put w out e (Err f) v after = First (put_refusals w.events w.at (length out) e) (parts f) × (v ≡ w) × (after ≡ out)
+Put w out e (Err f) v after = First (put_refusals w.extent.events w.extent.at (length out) e) (parts f) × (v ≡ w) × (after ≡ out)
 
 -- what a call of `put` makes of the events that the bytes hold
 abbrev pub AfterPut : List (Timed ℕ) → Timed ℕ → Result ℕ Fault → Writer → List ℕ → Type 0
@@ -36,13 +35,13 @@ AfterPut es e (Err f) v after = Holds v after es
 
 -- the end command was written: the output bytes, all of them, afterwards
 pub record HasClosed (w : Writer) (out : List ℕ) (n : ℕ) (after : List ℕ) : Type 0 where
-  pub none : NoneOf (close_refusals w.at (length out))
-  pub answer : n ≡ w.at + 5
-  pub bytes : after ≡ written out w.at (end_command w.events)
+  pub none : NoneOf (close_refusals w.extent.at (length out))
+  pub answer : n ≡ w.extent.at + 5
+  pub bytes : after ≡ written out w.extent.at (end_command w.extent.events)
 
 abbrev pub Closed : Writer → List ℕ → Result ℕ Unclosed → List ℕ → Type 0
 Closed w out (Ok n) after = HasClosed w out n after
-Closed w out (Err u) after = First (close_refusals w.at (length out)) (parts u.fault) × (u.writer ≡ w) × (after ≡ out)
+Closed w out (Err u) after = First (close_refusals w.extent.at (length out)) (parts u.fault) × (u.writer ≡ w) × (after ≡ out)
 
 -- what a call of `close` makes of the events that the bytes hold
 abbrev pub AfterClose : List (Timed ℕ) → Result ℕ Unclosed → List ℕ → Type 0

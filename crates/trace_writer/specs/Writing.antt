@@ -9,6 +9,7 @@ use Rattle.trace_file.specs.Event.{command, timed_with}
 use Rattle.trace_file.specs.Fault.{Rule, NoneOf, four_numbers}
 use Rattle.trace_file.specs.File.{Command, encoded, most_events}
 use Rattle.trace_file.specs.Identifier.{padded, greatest}
+use Rattle.trace_writer.specs.declared.extent.Extent.{Extent}
 
 -- the bytes with others written over them from a place on
 abbrev pub written : List ℕ → ℕ → List ℕ → List ℕ
@@ -56,8 +57,9 @@ put_refusals n at room e =
 abbrev pub close_refusals : ℕ → ℕ → List Rule
 close_refusals at room = record { when = room < at + 5; gives = in_writer 15 at } ∷ []
 
--- an event that is not refused, and how many bytes it takes
-pub record Admitted (n at room : ℕ) (e : Timed ℕ) (k : ℕ) : Type 0 where
-  pub none : NoneOf (put_refusals n at room e)
+-- an event that is not refused, and how far the file comes with it
+pub record Admitted (x : Extent) (room : ℕ) (e : Timed ℕ) (y : Extent) : Type 0 where
+  pub none : NoneOf (put_refusals x.events x.at room e)
   pub writable : Writable e
-  pub size : k ≡ length (encoded (command_for e))
+  pub at : y.at ≡ x.at + length (encoded (command_for e))
+  pub events : y.events ≡ x.events + 1

@@ -1,27 +1,17 @@
-// Which events can be written, and how many bytes they take.
-ghost use Rattle.std.specs.Prelude.{◌≡◌, ◌+◌, length, MatchOption, MatchResult};
+// Which events can be written, and how far a file then comes.
+ghost use Rattle.std.specs.Prelude.{◌≡◌, ◌+◌, ◌≤◌, length, MatchOption, MatchResult};
 ghost use Rattle.trace_file.specs.declared.fault.Layer.TheVariants.{Writer as InWriter};
 ghost use Rattle.trace_file.specs.Event.{operand_with};
 ghost use Rattle.trace_file.specs.Fault.{First, parts};
 ghost use Rattle.trace_file.specs.File.{operand_bytes};
 ghost use Rattle.trace_file.specs.Identifier.{padded};
-ghost use Rattle.trace_writer.specs.Writing.{Small, TooGreat, Admitted, put_refusals};
+ghost use Rattle.trace_writer.specs.Writing.{Small, TooGreat, Admitted, put_refusals, close_refusals};
 
+use crate::extent::Extent;
 use trace_file::MOST_EVENTS;
 use trace_file::event::{Operand, Timed};
 use trace_file::fault::{Fault, Layer, Refusal};
 use trace_file::identifier::GREATEST;
-
-// What a writer refuses after so many bytes.
-pub(crate) fn refused(refusal: Refusal, at: usize) -> Fault
-    ensures { result ≡ record { layer = InWriter; refusal = refusal; place = at } }
-{
-    Fault {
-        layer: Layer::Writer,
-        refusal,
-        place: at,
-    }
-}
 
 // How many bytes a command with this operand has, if the operand can be written.
 fn size_with(operand: Operand<u32>) -> Option<usize>
@@ -29,32 +19,47 @@ fn size_with(operand: Operand<u32>) -> Option<usize>
 {
     match operand {
         Operand::Nothing => Some(5),
-        Operand::Identifier(number) => {
-            if number > GREATEST {
-                return None;
-            }
-            Some(9)
-        }
+        Operand::Identifier(number) if number > GREATEST => None,
+        Operand::Identifier(_) => Some(9),
         Operand::Thread(_) => Some(7),
     }
 }
 
-// How many bytes an event takes, if it can be put after so many events and bytes, where there are `room` bytes.
-pub(crate) fn admit(timed: Timed<u32>, events: u32, at: usize, room: usize) -> Result<usize, Fault>
-    ensures { MatchResult result (Admitted events at room timed) (λ f. First (put_refusals events at room timed) (parts f)) }
-{
-    if events >= MOST_EVENTS {
-        return Err(refused(Refusal::TooMany, at));
+impl Extent {
+    fn refused(self, refusal: Refusal) -> Fault
+        ensures { result ≡ record { layer = InWriter; refusal = refusal; place = self.at } }
+    {
+        Layer::Writer.refuses(refusal, self.at)
     }
-    if timed.gap == 0 {
-        return Err(refused(Refusal::StuckClock, at));
+
+    // How far the file comes with an event after these, if it can be put where there are `room` bytes.
+    pub(crate) fn admit(self, timed: Timed<u32>, room: usize) -> Result<Extent, Fault>
+        ensures { MatchResult result (Admitted self room timed) (λ f. First (put_refusals self.events self.at room timed) (parts f)) }
+    {
+        if self.events >= MOST_EVENTS {
+            return Err(self.refused(Refusal::TooMany));
+        }
+        if timed.gap == 0 {
+            return Err(self.refused(Refusal::StuckClock));
+        }
+        let (_, operand) = timed.event.command();
+        let size = size_with(operand).ok_or(self.refused(Refusal::BadIdentifier))?;
+        if room < self.at || room - self.at < size {
+            return Err(self.refused(Refusal::NoSpace));
+        }
+        Ok(Extent {
+            at: self.at + size,
+            events: self.events + 1,
+        })
     }
-    let (_, operand) = timed.event.command();
-    let Some(size) = size_with(operand) else {
-        return Err(refused(Refusal::BadIdentifier, at));
-    };
-    if room < at || room - at < size {
-        return Err(refused(Refusal::NoSpace, at));
+
+    // How many bytes the file has with the end command, if that can be put where there are `room` bytes.
+    pub(crate) fn admit_end(self, room: usize) -> Result<usize, Fault>
+        ensures { MatchResult result (λ n. (n ≡ self.at + 5) × (n ≤ room)) (λ f. First (close_refusals self.at room) (parts f)) }
+    {
+        if room < self.at || room - self.at < 5 {
+            return Err(self.refused(Refusal::NoSpace));
+        }
+        Ok(self.at + 5)
     }
-    Ok(size)
 }

@@ -5,6 +5,7 @@ ghost use Rattle.trace_file.specs.File.{encoded, operand_bytes, end_command};
 ghost use Rattle.trace_file.specs.Identifier.{padded, greatest};
 ghost use Rattle.trace_writer.specs.Writing.{written, Small, command_for};
 
+use crate::extent::Extent;
 use trace_file::event::{Operand, Timed};
 
 // The four digits of an identifier's number.
@@ -61,11 +62,11 @@ pub(crate) fn write(out: &mut [u8], at: usize, timed: Timed<u32>) -> usize
     5 + write_operand(out, at + 5, operand)
 }
 
-// Writes the end command from a place on.
-pub(crate) fn write_end(out: &mut [u8], at: usize, events: u32)
-    requires { at + 5 ≤ length out.old }
-    ensures { out.new ≡ written out.old at (end_command events) }
+// Writes the end command of a file that has come so far.
+pub(crate) fn write_end(out: &mut [u8], extent: Extent)
+    requires { extent.at + 5 ≤ length out.old }
+    ensures { out.new ≡ written out.old extent.at (end_command extent.events) }
 {
-    copy(out, at, &[0]);
-    copy(out, at + 1, &events.to_le_bytes());
+    copy(out, extent.at, &[0]);
+    copy(out, extent.at + 1, &extent.events.to_le_bytes());
 }

@@ -4,6 +4,7 @@
 mod admission;
 mod all;
 mod bytes;
+mod extent;
 mod tidying;
 pub mod writer;
 

@@ -1,15 +1,14 @@
 // Writes a file again with every identifier in the writer's padding.
-ghost use Rattle.std.specs.Prelude.{◌≡◌, Decides, MatchResult};
+ghost use Rattle.std.specs.Prelude.{◌≡◌, ◌↔◌, IsTrue, MatchResult};
 ghost use Rattle.trace_file.specs.Event.{command};
 ghost use Rattle.trace_file.specs.Fault.{parts};
 ghost use Rattle.trace_file.specs.File.{Refuses};
 ghost use Rattle.trace_writer.specs.Tidying.{Tidies, Stays, over, Short, Among, IsTidy, Counted};
 
-use crate::admission::refused;
 use crate::bytes::{copy, digits};
 use trace_file::check;
 use trace_file::event::{Event, Operand};
-use trace_file::fault::{Fault, Refusal};
+use trace_file::fault::{Fault, Layer, Refusal};
 use trace_file::identifier::Identifier;
 use trace_file::reader::Reader;
 
@@ -19,8 +18,7 @@ fn pad(out: &mut [u8], event: Event<Identifier<'_>>)
     requires among { Among out.old (command event).1 }
     ensures { out.new ≡ over out.old (command event.entry).1 }
 {
-    let (_, operand) = event.command();
-    if let Operand::Identifier(identifier) = operand {
+    if let (_, Operand::Identifier(identifier)) = event.command() {
         copy(out, identifier.place, &digits(identifier.number));
     }
 }
@@ -28,13 +26,12 @@ fn pad(out: &mut [u8], event: Event<Identifier<'_>>)
 // Whether an event has no identifier or one in the writer's padding.
 fn is_tidy(event: Event<Identifier<'_>>) -> bool
     requires { Short (command event).1 }
-    ensures { Decides result (IsTidy (command event.entry).1) }
+    ensures { IsTrue result ↔ IsTidy (command event.entry).1 }
 {
-    let (_, operand) = event.command();
-    match operand {
-        Operand::Identifier(identifier) => identifier.chars == digits(identifier.number).as_slice(),
-        _ => true,
-    }
+    let (_, Operand::Identifier(identifier)) = event.command() else {
+        return true;
+    };
+    identifier.chars == digits(identifier.number).as_slice()
 }
 
 // Writes the file again, of equal length. Answers how many bytes that are.
@@ -44,7 +41,7 @@ pub fn tidy(file: &[u8], out: &mut [u8]) -> Result<usize, Fault>
 {
     check(file)?;
     if out.len() < file.len() {
-        return Err(refused(Refusal::NoSpace, 0));
+        return Err(Layer::Writer.refuses(Refusal::NoSpace, 0));
     }
     copy(out, 0, file);
     let mut reader = Reader::new(file);

@@ -1,15 +1,14 @@
-// A file that is being written: how many bytes and events it has so far. It has to be closed or given up.
+// A file that is being written: how far it has come. It has to be closed or given up.
 ghost use Rattle.std.specs.Prelude.{◌≡◌, ℕ, List, []};
 ghost use Rattle.trace_writer.specs.Putting.{Holds, Put, AfterPut, Closed, AfterClose};
 
-use crate::admission::{admit, refused};
 use crate::bytes::{write, write_end};
+use crate::extent::Extent;
 use trace_file::event::{Event, Timed};
-use trace_file::fault::{Fault, Refusal};
+use trace_file::fault::Fault;
 
 pub struct Writer {
-    at: usize,
-    events: u32,
+    extent: Extent,
 }
 
 // A writer that could not be closed, still open, and why.
@@ -20,10 +19,12 @@ pub struct Unclosed {
 
 impl Writer {
     pub fn open() -> Writer
-        ensures start { (result.at ≡ 0) × (result.events ≡ 0) }
+        ensures start { (result.extent.at ≡ 0) × (result.extent.events ≡ 0) }
         ensures law { (out : List ℕ) → Holds result out [] }
     {
-        Writer { at: 0, events: 0 }
+        Writer {
+            extent: Extent::default(),
+        }
     }
 
     // Writes an event, its identifier by its number, after those before it. Answers how many there are.
@@ -32,10 +33,10 @@ impl Writer {
         ensures law { (es : List (Timed ℕ)) → Holds self.old out.old es → AfterPut es (record { gap = gap; event = event }) result self.new out.new }
     {
         let timed = Timed { gap, event };
-        admit(timed, self.events, self.at, out.len())?;
-        self.at += write(out, self.at, timed);
-        self.events += 1;
-        Ok(self.events)
+        let extent = self.extent.admit(timed, out.len())?;
+        write(out, self.extent.at, timed);
+        self.extent = extent;
+        Ok(extent.events)
     }
 
     // Writes the end command. Answers how many bytes the file has, or hands the open writer back.
@@ -43,23 +44,24 @@ impl Writer {
         ensures outcome { Closed self out.old result out.new }
         ensures law { (es : List (Timed ℕ)) → Holds self out.old es → AfterClose es result out.new }
     {
-        if out.len() < self.at || out.len() - self.at < 5 {
-            let fault = refused(Refusal::NoSpace, self.at);
-            return Err(Unclosed {
+        match self.extent.admit_end(out.len()) {
+            Ok(size) => {
+                let Writer { extent } = self;
+                write_end(out, extent);
+                Ok(size)
+            }
+            Err(fault) => Err(Unclosed {
                 writer: self,
                 fault,
-            });
+            }),
         }
-        let Writer { at, events } = self;
-        write_end(out, at, events);
-        Ok(at + 5)
     }
 
     // Ends the writing where it is. Answers how many bytes were written.
     pub fn give_up(self) -> usize
-        ensures { result ≡ self.at }
+        ensures { result ≡ self.extent.at }
     {
-        let Writer { at, events: _ } = self;
-        at
+        let Writer { extent } = self;
+        extent.at
     }
 }

@@ -1,5 +1,5 @@
 use Rattle.std.proofs.Common.{ℕ, length, get_or, take, sym, ap, ◌∙◌, arith, length-append}
-use Rattle.std.proofs.ByRecursion.{All-get_or}
+use Rattle.std.proofs.lemmas.List.Elements.{All-get_or}
 use Rattle.std.proofs.lemmas.List.{take_all}
 use Rattle.trace_file.specs.declared.event.Event.TheVariants.{NmiEntry}
 use Rattle.trace_file.specs.declared.event.Timed.{Timed}
@@ -18,7 +18,7 @@ unfolding absent
 write-at-requires c =
     let lt = c.loop-timed-test.true in
     record {
-      small = (All-get_or Writable _ _ _ lt c.requires.writable).operand;
+      small = (All-get_or Writable _ _ absent lt c.requires.writable).operand;
       room = omega (arith, bytes_within c.args.events.now c.loop-timed.timed-index absent lt, c.requires.fits, c.loop-timed.invariant.1, c.loop-timed.auto.out);
     }
 

@@ -6,8 +6,8 @@ use Rattle.trace_writer.proofs.bytes.write_end.Goals as goal
 
 pub returns : goal.returns
 returns c =
-    let at = c.args.at in
-    let n = c.args.events in
+    let at = c.args.extent.at in
+    let n = c.args.extent.events in
     c.copy-2.ensures
     ∙ ap (written c.copy.new.out (at + 1)) (c.to_le_bytes.ensures ∙ little_four n)
     ∙ ap (λ l. written l (at + 1) (little 4 n)) c.copy.ensures

@@ -1,13 +1,8 @@
-use Rattle.std.proofs.Common.{◌+◌, take, sym, refl, subst, arith}
+use Rattle.std.proofs.Common.{◌+◌, take, sym, ◌∙◌, ap, subst}
 use Rattle.trace_file.specs.File.{FileOf}
 use Rattle.trace_writer.proofs.Held.{closed_held}
 use Rattle.trace_writer.proofs.writer.Writer.close.Goals as goal
 
-pub returns : goal.returns
-returns c =
-    let w = c.args.self in
-    let bytes = c.write_end.ensures in
-    record {
-      outcome = record { none = (λ lt. omega arith, tt); answer = refl; bytes = bytes };
-      law = λ es holds. subst (λ out. FileOf (take (w.at + 5) out) es) (sym bytes) (closed_held w _ es holds);
-    }
+pub returns-in-Ok-clause-law : goal.returns-in-Ok-clause-law
+returns-in-Ok-clause-law c es holds =
+    subst (λ out. FileOf out es) (sym (ap (λ n. take n c.write_end.new.out) c.in-Ok.ensures.0 ∙ ap (take (c.args.self.extent.at + 5)) c.write_end.ensures)) (closed_held c.args.self _ es holds)
