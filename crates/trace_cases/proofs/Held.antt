@@ -1,10 +1,8 @@
 -- The definitions give what each case says.
-use Rattle.std.proofs.Common.{◌≡◌, ℕ, zero, suc, ◌+◌, ◌^◌, ◌<◌, ◌≤◌, List, [], ◌∷◌, length, get_or, take, codes, refl, inl, inr, ⊎_elim, arith, lit<, lit≤}
-use Rattle.std.proofs.lemmas.Bool.{cases_lt}
+use Rattle.std.proofs.Common.{◌≡◌, ℕ, ◌+◌, ◌^◌, ◌<◌, ◌≤◌, List, [], ◌∷◌, length, get_or, take, codes, refl, inl, inr, arith, lit<, lit≤}
 use Rattle.std.specs.List.{All}
 use Rattle.std.proofs.lemmas.List.Elements.{All-from_recursion, All-cons, All-nil}
 use Rattle.trace_file.specs.declared.event.Event.TheVariants.{IrqEntry}
-use Rattle.trace_file.specs.declared.identifier.Kind.{Kind}
 use Rattle.trace_file.specs.declared.identifier.Kind.TheVariants.{Blank, Digit}
 use Rattle.trace_file.specs.Event.{command}
 use Rattle.trace_file.specs.File.{Command, Proper, Sound, FileOf, Refuses, end_command, in_file}
@@ -12,22 +10,13 @@ use Rattle.trace_file.specs.Identifier.{kind, number, Form}
 use Rattle.trace_file.proofs.Padding.{padded_form}
 use Rattle.trace_cases.specs.Cases.{IsSo, cases, after, entry, example, example_file, example_events}
 
-apart : (k : Kind) → k ≡ Blank → k ≡ Digit → ⊥
-apart k p q = let z : ◌≡◌ {A = ℕ} 0 1 = cc in omega arith
-
 -- a blank between two digits
 torn : (cs : List ℕ) (i j k : ℕ) → i < j → j < k → k < length cs → kind (get_or cs i 0) ≡ Digit → kind (get_or cs j 0) ≡ Blank → kind (get_or cs k 0) ≡ Digit → Form cs → ⊥
-torn cs i j k ij jk inside a b c f =
-    let low : f.from ≤ i = ⊎_elim (λ lt. absurd (apart _ (f.before i lt) a)) (λ le. le) (cases_lt i f.from) in
-    let high : k < f.to = ⊎_elim (λ lt. lt) (λ le. absurd (apart _ (f.after k le inside) c)) (cases_lt k f.to) in
-    apart _ b (f.digits j (omega arith) (omega arith))
+torn cs i j k h h2 h3 h4 h5 h6 h7 = grind arith
 
 -- a blank at both ends
 between_blanks : (cs : List ℕ) (k : ℕ) → length cs ≡ k + 1 → kind (get_or cs 0 0) ≡ Blank → kind (get_or cs k 0) ≡ Blank → Form cs → ⊥
-between_blanks cs k long a b f =
-    ⊎_elim (λ e. apart _ a (f.digits 0 (omega arith) (omega (arith, f.some))))
-    (λ e. apart _ b (f.digits k (omega (arith, f.some)) (omega arith)))
-    f.one_side
+between_blanks cs k h h2 h3 h4 = grind arith
 
 -- a file of one entry whose characters are not an identifier
 refused_entry : (a b c d : ℕ) → (Form (a ∷ b ∷ c ∷ d ∷ []) → ⊥) → Refuses (entry (a ∷ b ∷ c ∷ d ∷ [])) (in_file 4 0)
@@ -56,16 +45,10 @@ two_blanks = record {
 }
   where
     before : (k : ℕ) → k < 2 → kind (get_or (codes "  33") k 0) ≡ Blank
-    before zero lt = refl
-    before (suc zero) lt = refl
-    before (suc (suc k)) lt = absurd (omega arith)
+    before k h = grind arith
 
     digits : (k : ℕ) → 2 ≤ k → k < 4 → kind (get_or (codes "  33") k 0) ≡ Digit
-    digits zero le lt = absurd (omega arith)
-    digits (suc zero) le lt = absurd (omega arith)
-    digits (suc (suc zero)) le lt = refl
-    digits (suc (suc (suc zero))) le lt = refl
-    digits (suc (suc (suc (suc k)))) le lt = absurd (omega arith)
+    digits k h h2 = grind arith
 
 example_sound : All Sound example
 example_sound = All-from_recursion Sound example (
@@ -128,16 +111,10 @@ blanks_after = record {
 }
   where
     digits : (k : ℕ) → 0 ≤ k → k < 2 → kind (get_or (codes "33  ") k 0) ≡ Digit
-    digits zero le lt = refl
-    digits (suc zero) le lt = refl
-    digits (suc (suc k)) le lt = absurd (omega arith)
+    digits k h h2 = grind arith
 
     blanks : (k : ℕ) → 2 ≤ k → k < 4 → kind (get_or (codes "33  ") k 0) ≡ Blank
-    blanks zero le lt = absurd (omega arith)
-    blanks (suc zero) le lt = absurd (omega arith)
-    blanks (suc (suc zero)) le lt = refl
-    blanks (suc (suc (suc zero))) le lt = refl
-    blanks (suc (suc (suc (suc k)))) le lt = absurd (omega arith)
+    blanks k h h2 = grind arith
 
 -- a file of one entry whose characters are an identifier
 entered : (a b c d : ℕ) → Form (a ∷ b ∷ c ∷ d ∷ []) → FileOf (entry (a ∷ b ∷ c ∷ d ∷ [])) (after 1 (IrqEntry (number (a ∷ b ∷ c ∷ d ∷ []))) ∷ [])

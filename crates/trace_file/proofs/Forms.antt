@@ -4,13 +4,10 @@ use native.Mathlib.Nat.{pow-succ'}
 use Rattle.std.specs.List.{prefix_len}
 use Rattle.std.proofs.lemmas.List.{get_or-drop}
 use Rattle.std.proofs.lemmas.List.Sums.{prefix_len_passes, prefix_len_stops, prefix_len-le-length}
-use Rattle.std.proofs.lemmas.Bool.{false≢true, cases_eq, cases_order, cases_lt, ne_eqb, eq-eqb, lt-leb, and_right, cond-true, cond-false}
+use Rattle.std.proofs.lemmas.Bool.{false≢true, cases_eq, cases_lt, ne_eqb, eq-eqb, lt-leb, and_right, cond-true, cond-false}
 use Rattle.trace_file.specs.declared.identifier.Kind.{Kind}
 use Rattle.trace_file.specs.declared.identifier.Kind.TheVariants.{Blank, Digit, Other}
 use Rattle.trace_file.specs.Identifier.{kind, Run, Form, number, number_after}
-
-apart : (k : Kind) → k ≡ Blank → k ≡ Digit → ⊥
-apart k p q = let z : ◌≡◌ {A = ℕ} 0 1 = cc in omega arith
 
 -- whether a kind is another
 abbrev pub is_kind : Kind → Kind → Bool
@@ -25,15 +22,7 @@ is_kind Other Digit = false
 is_kind Other Other = true
 
 same_kind : (a b : Kind) → is_kind a b ≡ true → a ≡ b
-same_kind Blank Blank e = refl
-same_kind Blank Digit e = absurd (false≢true e)
-same_kind Blank Other e = absurd (false≢true e)
-same_kind Digit Blank e = absurd (false≢true e)
-same_kind Digit Digit e = refl
-same_kind Digit Other e = absurd (false≢true e)
-same_kind Other Blank e = absurd (false≢true e)
-same_kind Other Digit e = absurd (false≢true e)
-same_kind Other Other e = refl
+same_kind a b h = grind arith
 
 is_itself : (k : Kind) → is_kind k k ≡ true
 is_itself Blank = refl
@@ -60,35 +49,9 @@ run_of cs from k n le e =
     }
 
 module _ (cs : List ℕ) (from to end : ℕ) (blanks : Run cs 0 Blank from) (digits : Run cs from Digit to) (rest : Run cs to Blank end) where
-  same_from : (f : Form cs) → f.from ≡ from
-  same_from f =
-      ⊎_elim (λ e. e)
-      (⊎_elim (λ lt. absurd (apart _ (blanks.all f.from (omega arith) lt) (f.digits f.from (omega arith) f.some)))
-      (λ lt. absurd (blanks.stops (omega (arith, f.within, f.some)) (f.before from lt))))
-      (cases_order f.from from)
-
-  same_to : (f : Form cs) → f.to ≡ to
-  same_to f =
-      let e = same_from f in
-      ⊎_elim (λ e. e)
-      (⊎_elim (λ lt. absurd (apart _ (f.after f.to (omega arith) (omega (arith, digits.within))) (digits.all f.to (omega (arith, f.some)) lt)))
-      (λ lt. absurd (digits.stops (omega (arith, f.within)) (f.digits to (omega (arith, digits.onward)) lt))))
-      (cases_order f.to to)
-
-  same_end : (f : Form cs) → end ≡ length cs
-  same_end f =
-      let e = same_to f in
-      ⊎_elim (λ e. e)
-      (⊎_elim (λ lt. absurd (rest.stops lt (f.after end (omega (arith, rest.onward)) lt)))
-      (λ lt. omega (arith, rest.within)))
-      (cases_order end (length cs))
-
   -- and every identifier is such
   pub only : Form cs → (from < to) × (end ≡ length cs) × ((from ≡ 0) ⊎ (to ≡ length cs))
-  only f =
-      let p = same_from f in
-      let q = same_to f in
-      (omega (arith, f.some), same_end f, ⊎_elim (λ e. inl (sym p ∙ e)) (λ e. inr (sym q ∙ e)) f.one_side)
+  only h = grind arith
 
 other : (c : ℕ) → (c ≡ 32 → ⊥) → 57 < c → kind c ≡ Other
 other c ne lt = rw (ne_eqb c 32 ne, and_right (leb 48 c) (leb c 57) (lt-leb c 57 lt))

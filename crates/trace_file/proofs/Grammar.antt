@@ -1,12 +1,10 @@
 -- The commands of a file are determined by its bytes.
-use Rattle.std.proofs.Common.{◌≡◌, ℕ, suc, ◌+◌, ◌<◌, ◌≤◌, List, [], ◌∷◌, ◌++◌, length, take, drop, sym, refl, ap, ◌∙◌, subst, ⊎_elim, append_assoc, zero-add, arith, lit<, lit≤, length-append}
+use Rattle.std.proofs.Common.{◌≡◌, ℕ, suc, ◌+◌, ◌<◌, ◌≤◌, List, [], ◌∷◌, ◌++◌, length, take, drop, sym, refl, ap, ◌∙◌, subst, ⊎_elim, append_assoc, zero-add, arith, length-append}
 use Rattle.std.specs.List.{All, flat_map}
 use Rattle.std.proofs.lemmas.List.{take_at, drop_at}
 use Rattle.std.proofs.lemmas.List.Elements.{All-head, All-tail}
 use Rattle.trace_file.specs.declared.event.Event.{Event}
-use Rattle.trace_file.specs.declared.event.Event.TheVariants.{NmiEntry, NmiExit, IrqEntry, IrqExit, LocalIrqDisable, LocalIrqEnable, PreemptDisable, PreemptEnable, PreemptDisableSched, ScheduleEntry, SchedSwitch, ScheduleExit, PreemptEnableSched, NeedResched, SchedWaking}
 use Rattle.trace_file.specs.declared.event.Operand.{Operand}
-use Rattle.trace_file.specs.declared.event.Operand.TheVariants.{Nothing, Identifier as Id, Thread}
 use Rattle.trace_file.specs.declared.fault.Parts.{Parts}
 use Rattle.trace_file.specs.Event.{command}
 use Rattle.trace_file.specs.Fault.{Rule, First, NoneOf}
@@ -17,37 +15,13 @@ use Rattle.trace_file.proofs.Commands.{operand_size, size_is, length-encoded, sa
 
 -- operands of one size with the same bytes are one
 same_operand : (o p : Operand (List ℕ)) → Proper o → Proper p → operand_size o ≡ operand_size p → operand_bytes o ≡ operand_bytes p → o ≡ p
-same_operand Nothing Nothing h k size e = refl
-same_operand Nothing (Id cs) h k size e = absurd (omega arith)
-same_operand Nothing (Thread t) h k size e = absurd (omega arith)
-same_operand (Id cs) Nothing h k size e = absurd (omega arith)
-same_operand (Id cs) (Id ds) h k size e = ap Id e
-same_operand (Id cs) (Thread t) h k size e = absurd (omega arith)
-same_operand (Thread t) Nothing h k size e = absurd (omega arith)
-same_operand (Thread t) (Id cs) h k size e = absurd (omega arith)
-same_operand (Thread t) (Thread u) h k size e = ap Thread (sym (from_little_fits 2 t h) ∙ ap from_little e ∙ from_little_fits 2 u k)
+same_operand o p h k size e = grind arith
 
 byte_range : (e : Event (List ℕ)) → (0 < (command e).0) × ((command e).0 ≤ 15)
-byte_range NmiEntry = (lit< tt, lit≤ tt)
-byte_range NmiExit = (lit< tt, lit≤ tt)
-byte_range (IrqEntry i) = (lit< tt, lit≤ tt)
-byte_range IrqExit = (lit< tt, lit≤ tt)
-byte_range LocalIrqDisable = (lit< tt, lit≤ tt)
-byte_range LocalIrqEnable = (lit< tt, lit≤ tt)
-byte_range PreemptDisable = (lit< tt, lit≤ tt)
-byte_range PreemptEnable = (lit< tt, lit≤ tt)
-byte_range PreemptDisableSched = (lit< tt, lit≤ tt)
-byte_range ScheduleEntry = (lit< tt, lit≤ tt)
-byte_range (SchedSwitch t) = (lit< tt, lit≤ tt)
-byte_range ScheduleExit = (lit< tt, lit≤ tt)
-byte_range PreemptEnableSched = (lit< tt, lit≤ tt)
-byte_range NeedResched = (lit< tt, lit≤ tt)
-byte_range (SchedWaking t) = (lit< tt, lit≤ tt)
+byte_range e = grind arith
 
 identified : (o : Operand (List ℕ)) → Proper o → operand_size o ≡ 4 → (length (operand_bytes o) ≡ 4) × Form (operand_bytes o)
-identified Nothing h size = absurd (omega arith)
-identified (Id cs) h size = h
-identified (Thread t) h size = absurd (omega arith)
+identified o h size = grind arith
 
 gap_said : (c : Command) → Sound c → from_little (little 4 c.gap) ≡ c.gap
 gap_said c h = from_little_fits 4 c.gap h.fits
@@ -136,9 +110,7 @@ abbrev Stuck : ℕ → List ℕ → Type 0
 Stuck n r = (d : Command) (t : List ℕ) → Sound d → n < most_events → r ≡ encoded d ++ t → ⊥
 
 end_stuck : (n : ℕ) → Stuck n (end_command n)
-end_stuck n d t h few e =
-    let z : 0 ≡ (command d.event).0 = cc in
-    omega (arith, byte_range d.event)
+end_stuck n = grind arith
 
 refused_stuck : (n at : ℕ) (r : List ℕ) (p : Parts) → First (refusals n at r) p → Stuck n r
 refused_stuck n at r p f d t h few e =

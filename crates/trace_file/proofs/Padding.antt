@@ -1,12 +1,10 @@
 -- A number padded with zeros is an identifier that says that number.
-use Rattle.std.proofs.Common.{◌≡◌, ℕ, zero, suc, ◌+◌, ◌-◌, ◌*◌, ◌/◌, ◌%◌, ◌<◌, ◌≤◌, leb, List, [], ◌∷◌, get_or, refl, ap, ◌∙◌, inl, arith, lit<, lit≤}
-use native.Mathlib.Nat.{div-add-mod, div-div-eq-div-mul}
-use Rattle.std.proofs.lemmas.Bool.{ne_eqb, le-leb, and_from}
+use Rattle.std.proofs.Common.{◌≡◌, ℕ, zero, suc, ◌+◌, ◌/◌, ◌%◌, ◌<◌, ◌≤◌, get_or, refl, inl, arith, lit<, lit≤}
 use Rattle.trace_file.specs.declared.identifier.Kind.TheVariants.{Digit}
-use Rattle.trace_file.specs.Identifier.{kind, Form, number, number_after, padded}
+use Rattle.trace_file.specs.Identifier.{kind, Form, number, padded}
 
 kind_digit : (d : ℕ) → d < 10 → kind (48 + d) ≡ Digit
-kind_digit d h = rw (ne_eqb (48 + d) 32 (λ e. omega arith), and_from (leb 48 (48 + d)) (leb (48 + d) 57) (le-leb 48 (48 + d) (omega arith)) (le-leb (48 + d) 57 (omega arith)))
+kind_digit d h = grind arith
 
 module _ (n : ℕ) (h : n ≤ 9999) where
   all_digits : (k : ℕ) → 0 ≤ k → k < 4 → kind (get_or (padded n) k 0) ≡ Digit
@@ -28,24 +26,5 @@ module _ (n : ℕ) (h : n ≤ 9999) where
     one_side = inl refl;
   }
 
--- one more digit is read
-digit_after : (m d : ℕ) (cs : List ℕ) → number_after m ((48 + d) ∷ cs) ≡ number_after (m * 10 + d) cs
-digit_after m d cs =
-    let e : 48 + d - 48 ≡ d = omega arith in
-    rw (ne_eqb (48 + d) 32 (λ p. omega arith)) (ap (λ x. number_after (m * 10 + x) cs) e)
-
-four_digits : (a b c d : ℕ) → number ((48 + a) ∷ (48 + b) ∷ (48 + c) ∷ (48 + d) ∷ []) ≡ (((0 * 10 + a) * 10 + b) * 10 + c) * 10 + d
-four_digits a b c d =
-    digit_after 0 a ((48 + b) ∷ (48 + c) ∷ (48 + d) ∷ [])
-    ∙ digit_after (0 * 10 + a) b ((48 + c) ∷ (48 + d) ∷ [])
-    ∙ digit_after ((0 * 10 + a) * 10 + b) c ((48 + d) ∷ [])
-    ∙ digit_after (((0 * 10 + a) * 10 + b) * 10 + c) d []
-
 pub number-padded : (n : ℕ) → number (padded n) ≡ n
-number-padded n =
-    let a = div-add-mod n 10 in
-    let b = div-add-mod (n / 10) 10 in
-    let c = div-add-mod (n / 100) 10 in
-    let p : n / 10 / 10 ≡ n / 100 = div-div-eq-div-mul n 10 10 in
-    let q : n / 100 / 10 ≡ n / 1000 = div-div-eq-div-mul n 100 10 in
-    four_digits (n / 1000) (n / 100 % 10) (n / 10 % 10) (n % 10) ∙ omega arith
+number-padded n = grind arith

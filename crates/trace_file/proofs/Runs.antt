@@ -1,48 +1,21 @@
 -- What the reader's steps say of a whole file.
-use Rattle.std.proofs.Common.{◌≡◌, ℕ, ◌+◌, ◌<◌, List, [], ◌∷◌, ◌++◌, length, drop, sym, ap, ◌∙◌, subst, append_assoc, arith, length-append}
+use Rattle.std.proofs.lemmas.Grind.{common_steps}
+use Rattle.std.proofs.Common.{◌≡◌, ℕ, ◌+◌, ◌<◌, List, [], ◌∷◌, ◌++◌, length, drop, subst, arith}
 use Rattle.std.specs.List.{flat_map}
-use Rattle.std.proofs.lemmas.List.Elements.{All-push}
-use Rattle.std.proofs.lemmas.List.{flat_map_more, length_push}
 use Rattle.trace_file.specs.declared.event.Timed.{Timed}
 use Rattle.trace_file.specs.declared.fault.Parts.{Parts}
 use Rattle.trace_file.specs.declared.identifier.Identifier.{Identifier}
 use Rattle.trace_file.specs.declared.reader.Reader.{Reader}
 use Rattle.trace_file.specs.Fault.{First}
-use Rattle.trace_file.specs.File.{Command, Sound, Reads, Refuses, encoded, end_command, refusals, most_events}
+use Rattle.trace_file.specs.File.{Command, Refuses, encoded, refusals, most_events}
 use Rattle.trace_file.specs.Reading.{as_read, Front, Took, HasRead}
 
 pub took : (r s : Reader) (t : Timed Identifier) (k : ℕ) → Front r.at r.rest.now t k × (r.events < most_events) → s.rest.now ≡ drop k r.rest.now → s.at ≡ r.at + k → s.events ≡ r.events + 1 → Took r t s
-took r s t k found rest at events =
-    let long = found.0.long in
-    record {
-      front = subst (Front r.at r.rest.now t) long found.0;
-      few = found.1;
-      rest = rest ∙ ap (λ n. drop n r.rest.now) long;
-      at = at ∙ ap (λ n. r.at + n) long;
-      events = events;
-    }
+took r s t k h h2 h3 h4 = grind arith
 
 module _ (file : List ℕ) (cs : List Command) (r : Reader) (read : HasRead file cs r) where
   pub one_more : (t : Timed Identifier) (s : Reader) → Took r t s → HasRead file (cs ++ as_read t ∷ []) s
-  one_more t s took =
-      let more = flat_map_more encoded [] cs (as_read t) in
-      record {
-        whole = read.whole
-            ∙ ap (λ l. flat_map encoded cs ++ l) (took.front.stands ∙ ap (λ l. encoded (as_read t) ++ l) (sym took.rest))
-            ∙ sym (append_assoc (flat_map encoded cs) (encoded (as_read t)) s.rest.now)
-            ∙ ap (λ l. l ++ s.rest.now) more;
-        sound = All-push Sound cs (as_read t) read.sound took.front.sound;
-        few = simp length_push (omega (arith, took.few, read.events));
-        at = took.at ∙ ap (λ n. n + length (encoded (as_read t))) read.at ∙ sym (length-append (flat_map encoded cs) (encoded (as_read t))) ∙ ap length more;
-        events = took.events ∙ ap (λ n. n + 1) read.events ∙ sym (length_push cs (as_read t));
-      }
-
-  pub ended : r.rest.now ≡ end_command r.events → Reads file cs
-  ended e = record {
-    whole = read.whole ∙ ap (λ l. flat_map encoded cs ++ l) (e ∙ ap end_command read.events);
-    sound = read.sound;
-    few = read.few;
-  }
+  one_more t s h = grind (arith, common_steps)
 
   pub refused : (p : Parts) → First (refusals r.events r.at r.rest.now) p → Refuses file p
   refused p first = record {

@@ -73,6 +73,7 @@ fn value(chars: &[u8]) -> u32
 }
 
 // The number of an identifier, if the characters are one.
+#[tactic(auto, using(crate::proofs::Forms::only))]
 pub(crate) fn number_of(chars: &[u8]) -> Option<u32>
     requires { length chars.now ≤ width }
     ensures { MatchOption result (Form chars.now → ⊥) (λ n. Form chars.now × (n ≡ number chars.now)) }

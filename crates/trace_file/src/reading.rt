@@ -22,6 +22,7 @@ impl<'a> Reader<'a> {
     }
 
     // The next event command, or none at a sound end command.
+    #[tactic(auto, using(crate::proofs::Runs::refused))]
     pub fn next(&mut self) -> Result<Option<Timed<Identifier<'a>>>, Fault>
         ensures step { Next self.old result self.new }
         ensures law { (file : List ℕ) (cs : List Command) → HasRead file cs self.old → Says file cs result self.new }

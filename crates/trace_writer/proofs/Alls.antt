@@ -1,14 +1,14 @@
 -- Events that are written all at once, one after another.
+use Rattle.std.proofs.lemmas.Grind.{common_steps}
 use Rattle.std.proofs.Common.{◌≡◌, ℕ, ◌+◌, ◌<◌, ◌≤◌, List, [], ◌∷◌, ◌++◌, length, get_or, take, drop, sym, refl, ap, ◌∙◌, subst, append_assoc, arith, length-append}
-use Rattle.std.proofs.lemmas.List.{take_all, take_more, drop_more, take-append-drop, length_push}
-use Rattle.std.proofs.lemmas.List.Elements.{All-more}
+use Rattle.std.proofs.lemmas.List.{take_all, take_more, drop_more, take-append-drop}
 use Rattle.trace_file.specs.declared.event.Timed.{Timed}
 use Rattle.trace_file.specs.declared.fault.Parts.{Parts}
 use Rattle.trace_file.specs.Fault.{First}
 use Rattle.trace_file.specs.File.{FileOf, encoded, end_command}
 use Rattle.trace_writer.specs.declared.extent.Extent.{Extent}
-use Rattle.trace_writer.specs.All.{Reaches, StopsAt, StopsAtEnd, WroteAll}
-use Rattle.trace_writer.specs.Writing.{written, command_for, bytes_of, Writable, Admitted, put_refusals, close_refusals}
+use Rattle.trace_writer.specs.All.{Reaches, StopsAt, WroteAll}
+use Rattle.trace_writer.specs.Writing.{written, command_for, bytes_of, Admitted, put_refusals}
 use Rattle.trace_writer.proofs.Held.{bytes_push, file_of}
 use Rattle.trace_writer.proofs.Writes.{take_written}
 
@@ -27,18 +27,7 @@ module _ (es : List (Timed ℕ)) (i : ℕ) (d : Timed ℕ) (lt : i < length es) 
 
   module _ (room : ℕ) (x : Extent) (sofar : Reaches room (take i es) x) where
     pub one_more : (y : Extent) → Admitted x room (get_or es i d) y → Reaches room (take (i + 1) es) y
-    one_more y able =
-        let at : y.at ≡ length (bytes_of (take (i + 1) es)) = omega (arith, sofar.at, able.at, ap length bytes_more, length-append (bytes_of (take i es)) (encoded (command_for (get_or es i d)))) in
-        let count : y.events ≡ length (take (i + 1) es) = omega (arith, sofar.events, able.events, ap length (take_more es i d lt), length_push (take i es) (get_or es i d)) in
-        record {
-          fitting = record {
-            writable = All-more Writable es i d lt sofar.fitting.writable able.writable;
-            few = omega (arith, count, able.events, able.none.0);
-            fits = omega (arith, at, able.at, able.none.1.1.1.0);
-          };
-          at = at;
-          events = count;
-        }
+    one_more y h = grind (arith, common_steps)
 
     pub stops : (p : Parts) → First (put_refusals x.events x.at room (get_or es i d)) p → StopsAt room es p
     stops p first = record {
@@ -52,9 +41,6 @@ module _ (es : List (Timed ℕ)) (i : ℕ) (d : Timed ℕ) (lt : i < length es) 
 
 pub all_done : (room : ℕ) (es : List (Timed ℕ)) (i : ℕ) (x : Extent) → Reaches room (take i es) x → length es ≤ i → Reaches room es x
 all_done room es i x sofar le = subst (λ l. Reaches room l x) (take_all i es le) sofar
-
-pub stops_at_end : (room : ℕ) (es : List (Timed ℕ)) (x : Extent) (p : Parts) → Reaches room es x → First (close_refusals x.at room) p → StopsAtEnd room es p
-stops_at_end room es x p done first = record { fitting = done.fitting; first = subst (λ n. First (close_refusals n room) p) done.at first }
 
 pub wrote_all : (es : List (Timed ℕ)) (out : List ℕ) (x : Extent) (n : ℕ) (after : List ℕ) → Reaches (length out) es x → n ≡ x.at + 5 → n ≤ length out → after ≡ written out 0 (bytes_of es ++ end_command x.events) → WroteAll es out n after
 wrote_all es out x n after done size room bytes =

@@ -1,6 +1,6 @@
 -- Commands with their identifiers in the writer's padding.
+use Rattle.std.proofs.lemmas.Grind.{common_steps}
 use Rattle.std.proofs.Common.{◌≡◌, ℕ, ◌+◌, ◌-◌, ◌<◌, ◌≤◌, List, [], ◌∷◌, ◌++◌, map, length, get_or, take, sym, refl, ap, ◌∙◌, subst, ⊎_elim, append_assoc, zero-add, arith, length-append}
-use mathlib.Core.Path.{fun_ext}
 use Rattle.std.specs.List.{All, flat_map}
 use Rattle.std.proofs.lemmas.List.Elements.{All-head, All-tail, All-map, All-weaker}
 use Rattle.std.proofs.lemmas.List.{append_cancel_left, same_from_push, length_push, flat_map_more, map_push, get_or_append_left, get_or-append_right, length-map}
@@ -10,17 +10,17 @@ use Rattle.trace_file.specs.declared.event.Operand.TheVariants.{Nothing, Identif
 use Rattle.trace_file.specs.declared.event.Timed.{Timed}
 use Rattle.trace_file.specs.declared.identifier.Identifier.{Identifier}
 use Rattle.trace_file.specs.declared.reader.Reader.{Reader}
-use Rattle.trace_file.specs.Event.{command, with, operand_with}
+use Rattle.trace_file.specs.Event.{command, operand_with}
 use Rattle.trace_file.specs.File.{Command, Sound, Proper, Reads, FileOf, meant, little, operand_bytes, encoded, end_command, size as type_size}
 use Rattle.trace_file.specs.Identifier.{number, padded}
 use Rattle.trace_file.specs.Reading.{as_read, chars, IdentifierAt, OperandAt, Took, HasRead}
-use Rattle.trace_file.proofs.Commands.{command-with, encoded-with, with-with, same_bytes, size-with, operand_size, size_is, length-encoded}
+use Rattle.trace_file.proofs.Commands.{command-with, encoded-with, size_is, length-encoded}
 use Rattle.trace_file.proofs.Forms.{number_small}
-use Rattle.trace_file.proofs.Grammar.{determined, same_command}
+use Rattle.trace_file.proofs.Grammar.{determined}
 use Rattle.trace_file.proofs.Runs.{one_more as read_more}
-use Rattle.trace_file.proofs.Padding.{padded_form, number-padded}
+use Rattle.trace_file.proofs.Padding.{padded_form}
 use Rattle.trace_writer.specs.Writing.{written}
-use Rattle.trace_writer.proofs.Writes.{length-written, take_written, written_inside, written_again}
+use Rattle.trace_writer.proofs.Writes.{take_written, written_inside, written_again}
 use Rattle.trace_writer.specs.Tidying.{tidied, tidy_file, InIdentifier, HasTidied, over, Short, Among, IsTidy, Untidy, no_command, kept, changed, Counted}
 
 proper : (o : Operand (List ℕ)) → Proper o → Proper (operand_with (λ cs. padded (number cs)) o)
@@ -36,31 +36,17 @@ sound_tidied c h = record {
 }
 
 pub long_tidied : (c : Command) → Sound c → length (encoded (tidied c)) ≡ length (encoded c)
-long_tidied c h =
-    length-encoded (tidied c) (sound_tidied c h)
-    ∙ ap (λ x. 5 + operand_size x.1) (command-with (λ cs. padded (number cs)) c.event)
-    ∙ ap (λ n. 5 + n) (size-with (λ cs. padded (number cs)) (command c.event).1)
-    ∙ sym (length-encoded c h)
+long_tidied c h = grind arith
 
 pub tidied-tidied : (c : Command) → tidied (tidied c) ≡ tidied c
-tidied-tidied c =
-    let event = with-with (λ cs. padded (number cs)) (λ cs. padded (number cs)) c.event ∙ ap (λ f. with f c.event) (fun_ext (λ cs. ap padded (number-padded (number cs)))) in
-    λ i. record { gap = c.gap; event = event i }
+tidied-tidied c = grind arith
 
 pub meant_tidied : (c : Command) → meant (tidied c) ≡ meant c
-meant_tidied c =
-    let event = with-with (λ cs. padded (number cs)) number c.event ∙ ap (λ f. with f c.event) (fun_ext (λ cs. number-padded (number cs))) in
-    λ i. record { gap = c.gap; event = event i }
+meant_tidied c = grind arith
 
 -- one command: only the characters of an identifier differ
 alone_one : (c : Command) (k : ℕ) → Sound c → k < length (encoded c) → ((command c.event).0 ≡ 3 → 5 ≤ k → ⊥) → get_or (encoded (tidied c)) k 0 ≡ get_or (encoded c) k 0
-alone_one c k h lt apart =
-    let front = (command c.event).0 ∷ little 4 c.gap in
-    let bytes = encoded-with (λ cs. padded (number cs)) c in
-    ⊎_elim
-    (λ low. ap (λ l. get_or l k 0) bytes ∙ get_or_append_left front _ 0 k low ∙ sym (get_or_append_left front (operand_bytes (command c.event).1) 0 k low))
-    (λ high. ap (λ l. get_or l k 0) (bytes ∙ ap (λ l. front ++ l) (same_bytes _ c.event (λ e. apart e high))))
-    (cases_lt k 5)
+alone_one c k h h2 h3 = grind arith
 
 further : (c : Command) (cs : List Command) (k : ℕ) → length (encoded c) ≤ k → InIdentifier cs (k - length (encoded c)) → InIdentifier (c ∷ cs) k
 further c cs k le i = record {
@@ -176,17 +162,14 @@ module _ (r s : Reader) (t : Timed Identifier) (took : Took r t s) where
   stands_as o e = encoded-with chars t ∙ ap (λ x. ((command t.event).0 ∷ little 4 t.gap) ++ operand_bytes (operand_with chars x)) e
 
   becomes : (o : Operand Identifier) → (command t.event).1 ≡ o → encoded (tidied (as_read t)) ≡ ((command t.event).0 ∷ little 4 t.gap) ++ operand_bytes (operand_with (λ i. padded (number (chars i))) o)
-  becomes o e =
-      ap (λ x. encoded (record { gap = t.gap; event = x })) (with-with chars (λ cs. padded (number cs)) t.event)
-      ∙ encoded-with (λ i. padded (number (chars i))) t
-      ∙ ap (λ x. ((command t.event).0 ∷ little 4 t.gap) ++ operand_bytes (operand_with (λ i. padded (number (chars i))) x)) e
+  becomes o h = grind arith
 
   rest_is : r.rest.now ≡ encoded (as_read t) ++ s.rest.now
   rest_is = took.front.stands ∙ ap (λ l. encoded (as_read t) ++ l) (sym took.rest)
 
   -- an identifier that was read has four characters and stands where it says
   four : (i : Identifier) → (command t.event).1 ≡ Id i → length (chars i) ≡ 4
-  four i e = (subst (λ x. Proper x.1) (command-with chars t.event ∙ ap (λ o. ((command t.event).0, operand_with chars o)) e) took.front.sound.operand).0
+  four i h = grind arith
 
   found : (i : Identifier) → (command t.event).1 ≡ Id i → IdentifierAt r.at r.rest.now i
   found i e = subst (OperandAt r.at r.rest.now) e took.front.operand
@@ -199,22 +182,11 @@ module _ (r s : Reader) (t : Timed Identifier) (took : Took r t s) where
   pub four_digits : Short (command t.event).1
   four_digits = small (command t.event).1 refl
 
-  -- an identifier is in the writer's padding just where tidying leaves its command as it is
-  is_tidy : (o : Operand Identifier) → (command t.event).1 ≡ o → (IsTidy o → operand_bytes (operand_with (λ i. padded (number (chars i))) o) ≡ operand_bytes (operand_with chars o)) × (operand_bytes (operand_with (λ i. padded (number (chars i))) o) ≡ operand_bytes (operand_with chars o) → IsTidy o)
-  is_tidy Nothing e = (λ h. refl, λ h. tt)
-  is_tidy (Id i) e = (λ h. ap padded (sym (found i e).number) ∙ sym h, λ h. sym h ∙ ap padded (sym (found i e).number))
-  is_tidy (Thread n) e = (λ h. refl, λ h. tt)
-
   pub tidy_same : IsTidy (command t.event).1 → tidied (as_read t) ≡ as_read t
-  tidy_same h =
-      let o = (command t.event).1 in
-      let bytes = becomes o refl ∙ ap (λ l. ((command t.event).0 ∷ little 4 t.gap) ++ l) ((is_tidy o refl).0 h) ∙ sym (stands_as o refl) in
-      (same_command (tidied (as_read t)) (as_read t) [] [] (sound_tidied (as_read t) took.front.sound) took.front.sound (ap (λ l. l ++ []) bytes)).0
+  tidy_same h = grind arith
 
   pub same_tidy : tidied (as_read t) ≡ as_read t → IsTidy (command t.event).1
-  same_tidy e =
-      let o = (command t.event).1 in
-      (is_tidy o refl).1 (append_cancel_left ((command t.event).0 ∷ little 4 t.gap) _ _ (sym (becomes o refl) ∙ ap encoded e ∙ stands_as o refl))
+  same_tidy h = grind arith
 
 module _ (file out : List ℕ) (cs : List Command) (r s : Reader) (now : List ℕ) (half : Halfway file out cs r now) (room : length file ≤ length out) (t : Timed Identifier) (took : Took r t s) where
   done : List ℕ
@@ -224,20 +196,8 @@ module _ (file out : List ℕ) (cs : List Command) (r s : Reader) (now : List �
   target : List ℕ
   target = written out 0 (flat_map encoded (map tidied cs) ++ (encoded (tidied (as_read t)) ++ s.rest.now))
 
-  long_now : length now ≡ length out
-  long_now =
-      let inner = length-append (flat_map encoded (map tidied cs)) r.rest.now in
-      let whole = ap length half.read.whole ∙ length-append (flat_map encoded cs) r.rest.now in
-      ap length half.bytes ∙ length-written out 0 (flat_map encoded (map tidied cs) ++ r.rest.now) (omega (arith, inner, whole, long_run cs half.read.sound))
-
   among : (o : Operand Identifier) → (command t.event).1 ≡ o → Among now o
-  among Nothing e = tt
-  among (Id i) e =
-      let part = ap length (stands_as r s t took (Id i) e) in
-      let rest = ap length (rest_is r s t took) ∙ length-append (encoded (as_read t)) s.rest.now in
-      let whole = ap length half.read.whole ∙ length-append (flat_map encoded cs) r.rest.now in
-      omega (arith, part, rest, whole, four r s t took i e, (found r s t took i e).place, half.read.at, long_now)
-  among (Thread n) e = tt
+  among o h = grind (arith, common_steps)
 
   padded_now : (i : Identifier) → (command t.event).1 ≡ Id i → written now i.place (padded i.number) ≡ target
   unfolding target done

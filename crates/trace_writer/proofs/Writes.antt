@@ -1,21 +1,16 @@
 -- Bytes written after one another, and the bytes of a command.
-use Rattle.std.proofs.Common.{◌≡◌, ℕ, ◌+◌, ◌/◌, ◌%◌, ◌≤◌, List, [], ◌∷◌, ◌++◌, length, take, drop, sym, refl, ap, ◌∙◌, append_assoc, add-zero, zero-add, arith, length-append, length-drop, take-append-drop}
-use native.Mathlib.Nat.{div-div-eq-div-mul}
-use Rattle.std.proofs.lemmas.List.{append-nil, take_at, drop_at, drop-drop, length-take-le}
+use Rattle.std.proofs.lemmas.Grind.{common_steps}
+use Rattle.std.proofs.Common.{◌≡◌, ℕ, ◌+◌, ◌/◌, ◌%◌, ◌≤◌, List, [], ◌∷◌, ◌++◌, length, take, drop, sym, ap, ◌∙◌, append_assoc, zero-add, arith, length-append}
+use Rattle.std.proofs.lemmas.List.{take_at, drop_at, drop-drop, length-take-le}
 use Rattle.trace_file.specs.declared.event.Event.{Event}
 use Rattle.trace_file.specs.declared.event.Operand.{Operand}
 use Rattle.trace_file.specs.Event.{command, operand_with}
 use Rattle.trace_file.specs.File.{little, operand_bytes, encoded}
 use Rattle.trace_file.specs.Identifier.{padded}
-use Rattle.trace_file.proofs.Commands.{encoded-with}
 use Rattle.trace_writer.specs.Writing.{written, command_for}
 
 pub length-written : (out : List ℕ) (at : ℕ) (xs : List ℕ) → at + length xs ≤ length out → length (written out at xs) ≡ length out
-length-written out at xs h =
-    simp (length-append, length-drop) (let e = length-take-le at out (omega arith) in omega arith)
-
-pub written_none : (out : List ℕ) (at : ℕ) → written out at [] ≡ out
-written_none out at = ap (λ n. take at out ++ drop n out) (add-zero at) ∙ take-append-drop at out
+length-written out at xs h = grind (arith, common_steps)
 
 module _ (out : List ℕ) (at : ℕ) (xs : List ℕ) (h : at ≤ length out) where
   grouped : written out at xs ≡ (take at out ++ xs) ++ drop (at + length xs) out
@@ -61,19 +56,15 @@ written_inside out xs ys zs ws at is same =
     ∙ ap (λ n. new ++ drop (0 + n) out) long
 
 pub written_again : (out ys zs : List ℕ) → length ys ≡ length zs → written (written out 0 ys) 0 zs ≡ written out 0 zs
-written_again out ys zs same =
-    ap (λ l. written (written out 0 l) 0 zs) (sym (append-nil ys)) ∙ written_inside out [] ys zs [] 0 refl same ∙ ap (written out 0) (append-nil zs)
+written_again out ys zs h = grind (arith, common_steps)
 
 pub little_four : (n : ℕ) → ◌≡◌ {A = List ℕ} (n % 256 ∷ n / 256 % 256 ∷ n / 65536 % 256 ∷ n / 16777216 % 256 ∷ []) (little 4 n)
-little_four n =
-    let p : n / 256 / 256 ≡ n / 65536 = div-div-eq-div-mul n 256 256 in
-    let q : n / 256 / 256 / 256 ≡ n / 16777216 = ap (λ m. m / 256) p ∙ div-div-eq-div-mul n 65536 256 in
-    λ i. n % 256 ∷ n / 256 % 256 ∷ sym p i % 256 ∷ sym q i % 256 ∷ []
+little_four n = grind arith
 
 module _ (gap : ℕ) (e : Event ℕ) (b : ℕ) (o : Operand ℕ) (is : (b, o) ≡ command e) where
   -- the bytes of a command, by its table entry
   pub bytes_are : encoded (command_for (record { gap = gap; event = e })) ≡ b ∷ (little 4 gap ++ operand_bytes (operand_with padded o))
-  bytes_are = encoded-with padded (record { gap = gap; event = e }) ∙ ap (λ c. c.0 ∷ (little 4 gap ++ operand_bytes (operand_with padded c.1))) (sym is)
+  bytes_are = grind arith
 
   pub command_written : (out p q r : List ℕ) (at : ℕ) → at ≤ length out → p ≡ written out at (b ∷ []) → q ≡ written p (at + 1) (little 4 gap) → r ≡ written q (at + 5) (operand_bytes (operand_with padded o)) → r ≡ written out at (encoded (command_for (record { gap = gap; event = e })))
   command_written out p q r at fits first second third =

@@ -40,6 +40,7 @@ impl Writer {
     }
 
     // Writes the end command. Answers how many bytes the file has, or hands the open writer back.
+    #[tactic(auto, using(crate::proofs::Held::closed_held))]
     pub fn close(self, out: &mut [u8]) -> Result<usize, Unclosed>
         ensures outcome { Closed self out.old result out.new }
         ensures law { (es : List (Timed ℕ)) → Holds self out.old es → AfterClose es result out.new }

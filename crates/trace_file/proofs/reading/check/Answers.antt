@@ -1,6 +1,5 @@
-use Rattle.std.proofs.Common.{length, Ok, ap, ◌∙◌, subst}
+use Rattle.std.proofs.Common.{length, Ok, ap, ◌∙◌}
 use Rattle.std.proofs.lemmas.Result.{err_from_is_err_and}
-use Rattle.trace_file.specs.Reading.{Next, Says}
 use Rattle.trace_file.proofs.Grammar.{determined, apart, one_refusal}
 use Rattle.trace_file.proofs.reading.check.Goals as goal
 
@@ -19,15 +18,15 @@ returns-in_err-next c =
 pub loop-preserved : goal.loop-preserved
 loop-preserved c =
     let law = c.in_ok-next.ensures.law c.args.file.now c.loop.invariant.0 c.loop.invariant.1 in
-    (_, subst (λ o. Says c.args.file.now c.loop.invariant.0 (Ok o) c.next.new.self) c.in-Some.is law)
+    (_, rw (c.in-Some.is) at law)
 
 pub returns : goal.returns
 returns c =
     let file = c.args.file.now in
     let cs = c.loop.invariant.0 in
     let told = c.in_ok-next.ensures in
-    let reads = subst (λ o. Says file cs (Ok o) c.next.new.self) c.in_default.is (told.law file cs c.loop.invariant.1) in
-    let same = (subst (λ o. Next c.loop.reader (Ok o) c.next.new.self) c.in_default.is told.step).1 in
+    let reads = rw (c.in_default.is) at (told.law file cs c.loop.invariant.1) in
+    let same = (rw (c.in_default.is) at told.step).1 in
     let count = ap (λ r. r.events) same ∙ c.loop.invariant.1.events in
     record {
       outcome = (cs, reads, count);

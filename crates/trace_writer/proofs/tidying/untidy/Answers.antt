@@ -1,7 +1,6 @@
-use Rattle.std.proofs.Common.{Ok, subst, arith}
+use Rattle.std.proofs.Common.{arith}
 use Rattle.std.proofs.lemmas.Result.{err_from_is_err_and}
 use Rattle.std.proofs.lemmas.Bool.{both_ways}
-use Rattle.trace_file.specs.Reading.{Next, Says}
 use Rattle.trace_file.proofs.Runs.{one_more}
 use Rattle.trace_writer.specs.Tidying.{no_command, kept, changed}
 use Rattle.trace_writer.proofs.Tidied.{four_digits, tidy_same, same_tidy, untidy_le, counted}
@@ -18,7 +17,7 @@ returns-in_err-timed c =
 
 pub is_tidy-requires : goal.is_tidy-requires
 is_tidy-requires c =
-    let took = subst (λ o. Next c.loop-timed.reader (Ok o) c.next.new.self) c.in-Some.is c.in_ok-timed.ensures.step in
+    let took = rw (c.in-Some.is) at c.in_ok-timed.ensures.step in
     four_digits _ _ _ took
 
 pub overflow_add-count : goal.overflow_add-count
@@ -26,18 +25,18 @@ overflow_add-count c = record { fits = omega (arith, untidy_le c.loop-timed.inva
 
 pub loop-timed-preserved-then-not-is_tidy : goal.loop-timed-preserved-then-not-is_tidy
 loop-timed-preserved-then-not-is_tidy c =
-    let took = subst (λ o. Next c.loop-timed.reader (Ok o) c.next.new.self) c.in-Some.is c.in_ok-timed.ensures.step in
+    let took = rw (c.in-Some.is) at c.in_ok-timed.ensures.step in
     let inv = c.loop-timed.invariant in
     (_, one_more _ _ _ inv.1 _ _ took, changed _ inv.2 (λ e. both_ways _ c.if-not-is_tidy.true (c.is_tidy.ensures.1 (same_tidy _ _ _ took e))))
 
 pub loop-timed-preserved : goal.loop-timed-preserved
 loop-timed-preserved c =
-    let took = subst (λ o. Next c.loop-timed.reader (Ok o) c.next.new.self) c.in-Some.is c.in_ok-timed.ensures.step in
+    let took = rw (c.in-Some.is) at c.in_ok-timed.ensures.step in
     let inv = c.loop-timed.invariant in
     (_, one_more _ _ _ inv.1 _ _ took, kept _ inv.2 (tidy_same _ _ _ took (c.is_tidy.ensures.0 c.if-not-is_tidy.false)))
 
 pub returns : goal.returns
 returns c =
     let inv = c.loop-timed.invariant in
-    let reads = subst (λ o. Says c.args.file.now inv.0 (Ok o) c.next.new.self) c.in_default.is (c.in_ok-timed.ensures.law _ inv.0 inv.1) in
+    let reads = rw (c.in_default.is) at (c.in_ok-timed.ensures.law _ inv.0 inv.1) in
     counted _ _ _ reads inv.2
