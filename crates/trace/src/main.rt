@@ -25,6 +25,7 @@ fn run(rt: &HostRuntime) -> Result<(), Stop> {
     };
     let heap = rt.alloc();
     let mut out = BufWriter::new(heap, rt.stdout())?;
+    // A match and no table of jobs, since no two of them take the same.
     match word.as_str() {
         "check" => jobs::count(&mut out, jobs::input(heap, rt.stdin())?.as_slice())?,
         "show" => jobs::show(&mut out, jobs::input(heap, rt.stdin())?.as_slice())?,

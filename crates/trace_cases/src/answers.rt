@@ -11,8 +11,8 @@ pub(crate) const IN_FILE: u8 = 1;
 // The layer that refuses to write.
 pub(crate) const IN_WRITER: u8 = 5;
 
-// What is granted, or the number and the place of a refusal: numbers and no enum, since the tables test the numbers that are
-// documented, and `Err((3, 0))` is a line of that table.
+// What is granted, or the number and the place of a refusal. Both stay numbers, and the layers above too: the tables test the
+// numbers that are documented, and a static may not call a function that makes a `Parts` of `(3, 0)`.
 pub type Answer<T> = Result<T, (u8, usize)>;
 
 // What a layer must answer, in numbers.

@@ -14,6 +14,7 @@ pub fn one_call(out: &mut [u8], gap: u32) -> Result<usize, Fault>
         let _none = writer.give_up();
         return Err(fault);
     }
+    // A match and no `map_err`, which needs a proof file where this needs none.
     match writer.close(out) {
         Ok(size) => Ok(size),
         Err(Unclosed { writer, fault }) => {

@@ -61,7 +61,8 @@ impl<'a> Reader<'a> {
         })
     }
 
-    // The event of a command that stands here whole.
+    // The event of a command that stands here whole. A match and no `TryFrom` of a byte and an operand: that would have to be
+    // asked, after the byte was, for an error that cannot come.
     fn event(&self) -> Result<Event<Identifier<'a>>, Fault>
         requires some { 0 < length self.now.rest.now }
         requires known { (0 < slice_index self.now.rest.now 0) × (slice_index self.now.rest.now 0 ≤ 15) }

@@ -34,7 +34,8 @@ pub enum Operand<I> {
 }
 
 impl<I: Copy> Event<I> {
-    // The event's command byte and operand.
+    // The event's command byte and operand. The byte stays a number: it is the file's, and an enum of all bytes would list the
+    // events a second time.
     pub fn command(self) -> (u8, Operand<I>)
         ensures { result ≡ command self }
     {

@@ -13,6 +13,7 @@ use trace_file::fault::Fault;
 fn admit_all(events: &[Timed<u32>], room: usize) -> Result<Extent, Fault>
     ensures { MatchResult result (Reaches room events.now) (λ f. StopsAt room events.now (parts f)) }
 {
+    // No `try_fold`: it leaves a goal that no short answer closes.
     let mut extent = Extent::default();
     for timed in events {
         extent = extent.admit(*timed, room)?;

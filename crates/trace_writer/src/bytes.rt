@@ -8,7 +8,7 @@ ghost use Rattle.trace_writer.specs.Writing.{written, Small, command_for};
 use crate::extent::Extent;
 use trace_file::event::{Operand, Timed};
 
-// The four digits of an identifier's number.
+// The four digits of an identifier's number. No `write!` of them: it can fail, and this cannot.
 pub(crate) fn digits(number: u32) -> [u8; 4]
     requires { number ≤ greatest }
     ensures { result ≡ padded number }
@@ -21,7 +21,8 @@ pub(crate) fn digits(number: u32) -> [u8; 4]
     ]
 }
 
-// Writes the bytes from a place on.
+// Writes the bytes from a place on. Output bytes and place stay two parameters, here and below: a struct that holds the bytes
+// would owe, at each method, a clause that it still holds the same ones.
 pub(crate) fn copy(out: &mut [u8], at: usize, bytes: &[u8])
     requires { at + length bytes.now ≤ length out.old }
     ensures { out.new ≡ written out.old at bytes.now }

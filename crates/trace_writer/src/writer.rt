@@ -7,6 +7,7 @@ use crate::extent::Extent;
 use trace_file::event::{Event, Timed};
 use trace_file::fault::Fault;
 
+// It holds no output bytes: they come with each call, so whoever writes may keep them anywhere between two calls.
 pub struct Writer {
     extent: Extent,
 }
