@@ -23,7 +23,6 @@ impl<'a> Reader<'a> {
 
     // The next event command, or none at a sound end command. No `Iterator`: its items would be `Result`s, and what comes after an
     // error would be one more thing to say.
-    #[tactic(auto, using(crate::proofs::Runs::refused))]
     pub fn next(&mut self) -> Result<Option<Timed<Identifier<'a>>>, Fault>
         ensures step { Next self.old result self.new }
         ensures law { (file : List ℕ) (cs : List Command) → HasRead file cs self.old → Says file cs result self.new }

@@ -74,7 +74,7 @@ module _ (w : Writer) (out : List ℕ) (es : List (Timed ℕ)) (holds : Holds w 
         events = able.events ∙ ap (λ n. n + 1) holds.events ∙ sym (length_push es e);
       }
 
-  pub closed_held : FileOf (take (w.extent.at + 5) (written out w.extent.at (end_command w.extent.events))) es
-  closed_held =
-      let bytes = take_written out w.extent.at (end_command w.extent.events) holds.within ∙ ap (λ l. l ++ end_command w.extent.events) holds.bytes ∙ ap (λ n. bytes_of es ++ end_command n) holds.events in
-      subst (λ bs. FileOf bs es) (sym bytes) (file_of es holds.writable holds.few)
+  pub closed_held : (n : ℕ) (after : List ℕ) → n ≡ w.extent.at + 5 → after ≡ written out w.extent.at (end_command w.extent.events) → FileOf (take n after) es
+  closed_held n after answer bytes =
+      let file = take_written out w.extent.at (end_command w.extent.events) holds.within ∙ ap (λ l. l ++ end_command w.extent.events) holds.bytes ∙ ap (λ k. bytes_of es ++ end_command k) holds.events in
+      subst (λ bs. FileOf bs es) (sym (ap (λ k. take k after) answer ∙ ap (take (w.extent.at + 5)) bytes ∙ file)) (file_of es holds.writable holds.few)

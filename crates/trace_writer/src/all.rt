@@ -28,7 +28,7 @@ fn put_all(events: &[Timed<u32>], out: &mut [u8])
 {
     let mut at = 0;
     for timed in events {
-        at += write(out, at, *timed);
+        at += write(&mut out[at..], *timed);
     }
 }
 
@@ -39,6 +39,6 @@ pub fn write_all(events: &[Timed<u32>], out: &mut [u8]) -> Result<usize, Fault>
     let extent = admit_all(events, out.len())?;
     let size = extent.admit_end(out.len())?;
     put_all(events, out);
-    write_end(out, extent);
+    write_end(&mut out[extent.at..], extent.events);
     Ok(size)
 }

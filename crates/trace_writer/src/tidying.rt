@@ -19,7 +19,7 @@ fn pad(out: &mut [u8], event: Event<Identifier<'_>>)
     ensures { out.new ≡ over out.old (command event.entry).1 }
 {
     if let (_, Operand::Identifier(identifier)) = event.command() {
-        copy(out, identifier.place, &digits(identifier.number));
+        copy(&mut out[identifier.place..], &digits(identifier.number));
     }
 }
 
@@ -43,7 +43,7 @@ pub fn tidy(file: &[u8], out: &mut [u8]) -> Result<usize, Fault>
     if out.len() < file.len() {
         return Err(Layer::Writer.refuses(Refusal::NoSpace, 0));
     }
-    copy(out, 0, file);
+    copy(out, file);
     let mut reader = Reader::new(file);
     while let Some(timed) = reader.next()? {
         pad(out, timed.event);

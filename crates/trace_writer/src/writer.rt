@@ -35,13 +35,12 @@ impl Writer {
     {
         let timed = Timed { gap, event };
         let extent = self.extent.admit(timed, out.len())?;
-        write(out, self.extent.at, timed);
+        write(&mut out[self.extent.at..], timed);
         self.extent = extent;
         Ok(extent.events)
     }
 
     // Writes the end command. Answers how many bytes the file has, or hands the open writer back.
-    #[tactic(auto, using(crate::proofs::Held::closed_held))]
     pub fn close(self, out: &mut [u8]) -> Result<usize, Unclosed>
         ensures outcome { Closed self out.old result out.new }
         ensures law { (es : List (Timed ℕ)) → Holds self out.old es → AfterClose es result out.new }
@@ -49,7 +48,7 @@ impl Writer {
         match self.extent.admit_end(out.len()) {
             Ok(size) => {
                 let Writer { extent } = self;
-                write_end(out, extent);
+                write_end(&mut out[extent.at..], extent.events);
                 Ok(size)
             }
             Err(fault) => Err(Unclosed {

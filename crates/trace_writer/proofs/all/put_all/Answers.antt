@@ -6,7 +6,7 @@ use Rattle.trace_file.specs.declared.event.Timed.{Timed}
 use Rattle.trace_file.specs.File.{encoded}
 use Rattle.trace_writer.specs.Writing.{written, command_for, bytes_of, Writable}
 use Rattle.trace_writer.proofs.Alls.{bytes_more, bytes_within}
-use Rattle.trace_writer.proofs.Writes.{written_on}
+use Rattle.trace_writer.proofs.Writes.{placed, written_on}
 use Rattle.trace_writer.proofs.all.put_all.Goals as goal
 
 -- what is read past the end of a slice of events
@@ -31,10 +31,12 @@ unfolding absent
 loop-timed-preserved c =
     let es = c.args.events.now in
     let i = c.loop-timed.timed-index in
-    let more = bytes_more es i _ c.loop-timed-test.true in
+    let more = bytes_more es i absent c.loop-timed-test.true in
     let inv = c.loop-timed.invariant in
-    let told = c.write-at.ensures in (
-      written_on _ _ _ _ _ _ inv.0 inv.1 told.bytes ∙ ap (written c.args.out.now 0) (sym more),
+    let told = c.write-at.ensures in
+    let fits = bytes_within es i absent c.loop-timed-test.true in
+    let bytes = placed c.loop-timed.out _ (encoded (command_for (get_or es i absent))) c.loop-timed.at (omega (arith, fits, c.requires.fits, inv.1, c.loop-timed.auto.out)) told.bytes in (
+      written_on _ _ _ _ _ _ inv.0 inv.1 bytes ∙ ap (written c.args.out.now 0) (sym more),
       omega (arith, inv.1, told.size, ap length more, length-append (bytes_of (take i es)) (encoded (command_for (get_or es i absent)))),
     )
 
