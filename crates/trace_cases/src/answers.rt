@@ -15,6 +15,9 @@ pub(crate) const IN_WRITER: u8 = 5;
 // numbers that are documented, and a static may not call a function that makes a `Parts` of `(3, 0)`.
 pub type Answer<T> = Result<T, (u8, usize)>;
 
+// A case's name, its bytes, and the answer.
+pub struct Case(pub &'static str, pub &'static [u8], pub Answer<u32>);
+
 // What a layer must answer, in numbers.
 pub(crate) fn expected<T>(layer: u8, answer: Answer<T>) -> Result<T, Parts> {
     answer.map_err(|(number, place)| Parts {

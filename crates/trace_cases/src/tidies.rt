@@ -1,6 +1,6 @@
 // Files that are written again in one padding.
-use crate::answers::{IN_FILE, IN_WRITER, expected, parts};
-use crate::files::{FILES, File, PAIRS};
+use crate::answers::{Case, IN_FILE, IN_WRITER, expected, parts};
+use crate::files::{FILES, PAIRS};
 use crate::identifiers::{PADDINGS, Padding, file_with};
 use crate::sample;
 use crate::space::{BEFORE, ROOM, refuses, untouched};
@@ -87,7 +87,7 @@ fn too_few_bytes(rt: HostRuntime) {
 // They are refused as by a check, with output bytes and with none.
 #[test]
 fn refused_files(rt: HostRuntime) {
-    for File(name, bytes, answer) in FILES.iter().chain(&PAIRS) {
+    for Case(name, bytes, answer) in FILES.iter().chain(&PAIRS) {
         if let Err(refusal) = *answer {
             assert_eq!(rt; parts(untidy(bytes)), expected(IN_FILE, *answer), "{name}");
             refused(&rt, bytes, ROOM, IN_FILE, refusal, name);

@@ -44,7 +44,7 @@ impl Extent {
         }
         let (_, operand) = timed.event.command();
         let size = size_with(operand).ok_or(self.refused(Refusal::BadIdentifier))?;
-        if room < self.at || room - self.at < size {
+        if room.saturating_sub(self.at) < size {
             return Err(self.refused(Refusal::NoSpace));
         }
         Ok(Extent {
@@ -57,7 +57,7 @@ impl Extent {
     pub(crate) fn admit_end(self, room: usize) -> Result<usize, Fault>
         ensures { MatchResult result (λ n. (n ≡ self.at + 5) × (n ≤ room)) (λ f. First (close_refusals self.at room) (parts f)) }
     {
-        if room < self.at || room - self.at < 5 {
+        if room.saturating_sub(self.at) < 5 {
             return Err(self.refused(Refusal::NoSpace));
         }
         Ok(self.at + 5)
