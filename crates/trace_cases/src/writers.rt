@@ -5,7 +5,8 @@ use std::test::Fail;
 use trace_file::fault::Parts;
 use trace_writer::writer::{Unclosed, Writer};
 
-// The writer, or where a check of it failed the failure, with the writer given up.
+// The writer, or where a check of it failed the failure, with the writer given up. A match and no `map_err`, since either arm
+// takes the writer.
 pub(crate) fn kept(writer: Writer, checked: Result<(), Fail>) -> Result<Writer, Fail> {
     match checked {
         Ok(()) => Ok(writer),

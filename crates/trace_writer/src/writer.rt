@@ -28,7 +28,8 @@ impl Writer {
         }
     }
 
-    // Writes an event, its identifier by its number, after those before it. Answers how many there are.
+    // Writes an event, its identifier by its number, after those before it. Answers how many there are. Gap and event come apart,
+    // as whoever puts an event has them.
     pub fn put(&mut self, out: &mut [u8], gap: u32, event: Event<u32>) -> Result<u32, Fault>
         ensures outcome { Put self.old out.old (record { gap = gap; event = event }) result self.new out.new }
         ensures law { (es : List (Timed ℕ)) → Holds self.old out.old es → AfterPut es (record { gap = gap; event = event }) result self.new out.new }
