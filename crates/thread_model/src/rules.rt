@@ -26,7 +26,7 @@ impl Step {
 }
 
 impl State {
-    // In a thread, everything enabled, no thread called, no pass under way.
+    // In a thread, everything enabled, no thread called, no pass under way. No derived `Default`: it would say this in three places.
     pub fn start() -> State
         ensures { result ≡ start }
     {

@@ -44,7 +44,6 @@ pub fn show<W: Write>(out: &mut W, file: &[u8]) -> Result<(), Stop> {
     let mut stamp: u64 = 0;
     while let Some(Timed { gap, event }) = reader.next()? {
         stamp = stamp.saturating_add(gap.into());
-
         writeln!(out, "{stamp},{event}")?;
     }
     Ok(())

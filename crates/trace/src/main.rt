@@ -25,7 +25,7 @@ fn run(rt: &HostRuntime) -> Result<(), Stop> {
     };
     let heap = rt.alloc();
     let mut out = BufWriter::new(heap, rt.stdout())?;
-    // A match and no table of jobs, since no two of them take the same.
+    // A match and no table of jobs: `tidy` takes memory and standard error too, and the help reads no input.
     match word.as_str() {
         "check" => jobs::count(&mut out, jobs::input(heap, rt.stdin())?.as_slice())?,
         "show" => jobs::show(&mut out, jobs::input(heap, rt.stdin())?.as_slice())?,

@@ -11,8 +11,8 @@ pub(crate) const IN_FILE: u8 = 1;
 // The layer that refuses to write.
 pub(crate) const IN_WRITER: u8 = 5;
 
-// What is granted, or the number and the place of a refusal. Both stay numbers, and the layers above too: the tables test the
-// numbers that are documented, and a static may not call a function that makes a `Parts` of `(3, 0)`.
+// What is granted, or the number and the place of a refusal. Both stay numbers, and the layers above too, since the tables test
+// the numbers that are documented; as `Parts` each row would repeat layer and ground, where `Err((3, 0))` does.
 pub type Answer<T> = Result<T, (u8, usize)>;
 
 // A case's name, its bytes, and the answer.

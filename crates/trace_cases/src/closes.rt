@@ -34,15 +34,15 @@ fn with(
 #[test]
 fn a_refused_close_hands_the_writer_back(rt: HostRuntime) -> Result<(), Fail> {
     let mut out = [BEFORE; 16];
-    let writer = unclosed(&rt, Writer::open(), &mut out, 4, 0)?;
+    let writer = unclosed(&rt, Writer::open(), &mut out[0..4], 0)?;
     let writer = with(&rt, writer, &mut out, Event::NmiEntry, 1)?;
-    let writer = unclosed(&rt, writer, &mut out, 9, 5)?;
-    let writer = unclosed(&rt, writer, &mut out, 0, 5)?;
+    let writer = unclosed(&rt, writer, &mut out[0..9], 5)?;
+    let writer = unclosed(&rt, writer, &mut out[0..0], 5)?;
     let one = *b"\x01\x01\0\0\0\xee\xee\xee\xee\xee\xee\xee\xee\xee\xee\xee";
     assert_eq!(rt; out, one);
     let writer = with(&rt, writer, &mut out, Event::NmiExit, 2)?;
-    let writer = unclosed(&rt, writer, &mut out, 14, 10)?;
-    closed(&rt, writer, &mut out, 15, 15)?;
+    let writer = unclosed(&rt, writer, &mut out[0..14], 10)?;
+    closed(&rt, writer, &mut out[0..15], 15)?;
     assert_eq!(rt; out, *b"\x01\x01\0\0\0\x02\x01\0\0\0\0\x02\0\0\0\xee");
     Ok(())
 }
@@ -51,7 +51,7 @@ fn a_refused_close_hands_the_writer_back(rt: HostRuntime) -> Result<(), Fail> {
 fn a_writer_with_no_event(rt: HostRuntime) -> Result<(), Fail> {
     assert_eq!(rt; Writer::open().give_up(), 0);
     let mut out = [BEFORE; 6];
-    closed(&rt, Writer::open(), &mut out, 5, 5)?;
+    closed(&rt, Writer::open(), &mut out[0..5], 5)?;
     assert_eq!(rt; out, *b"\0\0\0\0\0\xee");
     Ok(())
 }

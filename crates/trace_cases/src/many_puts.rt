@@ -58,8 +58,8 @@ fn a_million_puts(rt: HostRuntime) -> Result<(), Fail> {
     let mut writer = Writer::open();
     let done = put_all(&rt, &mut writer, out.as_mut_slice());
     let writer = kept(writer, done)?;
-    closed(&rt, writer, out.as_mut_slice(), SIZE, SIZE)?;
     assert!(rt; out.len() == SIZE + 10);
+    closed(&rt, writer, &mut out.as_mut_slice()[0..SIZE], SIZE)?;
     assert_eq!(rt;
         &out[EVENTS_SIZE..out.len()],
         b"\0\x40\x42\x0f\0\xee\xee\xee\xee\xee\xee\xee\xee\xee\xee".as_slice()

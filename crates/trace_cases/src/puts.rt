@@ -88,9 +88,9 @@ fn put_counted(
     out: &mut [u8],
     events: &[Timed<u32>],
 ) -> Result<(), Fail> {
-    for (before, timed) in events.iter().enumerate() {
-        let count = parts(writer.put(out, timed.gap, timed.event))?;
-        assert_eq!(rt; count as usize, before + 1);
+    for (count, timed) in (1..).zip(events) {
+        let found = parts(writer.put(out, timed.gap, timed.event))?;
+        assert_eq!(rt; found, count);
     }
     Ok(())
 }
@@ -101,7 +101,7 @@ fn events_in_order(rt: HostRuntime) -> Result<(), Fail> {
     let mut writer = Writer::open();
     let done = put_counted(&rt, &mut writer, &mut out, &sample::events());
     let writer = kept(writer, done)?;
-    closed(&rt, writer, &mut out, sample::SIZE, sample::SIZE)?;
+    closed(&rt, writer, &mut out, sample::SIZE)?;
     assert_eq!(rt; out, sample::PADDED);
     Ok(())
 }

@@ -1,12 +1,12 @@
-// Writers in the hands of a case, which leaves none open.
+// Writers in the hands of a case, which leaves none open. What is answered is matched, with no `map_err`, since either arm takes
+// the writer. Writer, bytes and the runtime are passed each for itself, as a writer is and as an assertion takes them.
 use crate::answers::{IN_WRITER, expected};
 use std::process::Abort;
 use std::test::Fail;
 use trace_file::fault::Parts;
 use trace_writer::writer::{Unclosed, Writer};
 
-// The writer, or where a check of it failed the failure, with the writer given up. A match and no `map_err`, since either arm
-// takes the writer.
+// The writer, or where a check of it failed the failure, with the writer given up.
 pub(crate) fn kept(writer: Writer, checked: Result<(), Fail>) -> Result<Writer, Fail> {
     match checked {
         Ok(()) => Ok(writer),
@@ -17,16 +17,14 @@ pub(crate) fn kept(writer: Writer, checked: Result<(), Fail>) -> Result<Writer, 
     }
 }
 
-// In so many of the output bytes the writer is closed, and the file has this size.
+// In these output bytes the writer is closed, and the file has this size.
 pub(crate) fn closed(
     rt: &impl Abort,
     writer: Writer,
     out: &mut [u8],
-    room: usize,
     size: usize,
 ) -> Result<(), Fail> {
-    let room = room.min(out.len());
-    match writer.close(&mut out[0..room]) {
+    match writer.close(out) {
         Ok(found) => {
             assert_eq!(rt; found, size);
             Ok(())
@@ -38,16 +36,14 @@ pub(crate) fn closed(
     }
 }
 
-// So many of the output bytes are too few for the end command, and the writer is handed back.
+// These output bytes are too few for the end command, and the writer is handed back.
 pub(crate) fn unclosed(
     rt: &impl Abort,
     writer: Writer,
     out: &mut [u8],
-    room: usize,
     place: usize,
 ) -> Result<Writer, Fail> {
-    let room = room.min(out.len());
-    match writer.close(&mut out[0..room]) {
+    match writer.close(out) {
         Ok(_) => Err(Fail::new("closed")),
         Err(Unclosed { writer, fault }) => {
             let refusal = expected::<()>(IN_WRITER, Err((15, place)));

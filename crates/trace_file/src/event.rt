@@ -81,7 +81,8 @@ impl<I: Copy> Event<I> {
     }
 }
 
-// An event that was read, with the number of its identifier.
+// An event that was read, with the number of its identifier. No `map` with a closure, which would have to ask that it may be
+// called.
 impl From<Event<Identifier<'_>>> for Event<u32> {
     ghost from_gives = { λ read event. event ≡ with (λ i. i.number) read };
 

@@ -88,6 +88,7 @@ pub enum Refusal {
 }
 
 impl Refusal {
+    // The word, for whoever wants it as a text; `Display` prints it.
     pub fn word(self) -> &'static str
         ensures { result.now ≡ refusal_word self }
     {

@@ -1,4 +1,4 @@
-// A place in a file that is being read, with the events before it. Its methods stand in another file, since the definitions
+// A place in a file that is being read, with the events before it. Its methods stand in other files, since the definitions
 // that their contracts cite name this struct, and a struct with an invariant cannot import what names it.
 ghost use Rattle.std.specs.Prelude.{◌+◌, ◌^◌, ◌<◌, length};
 

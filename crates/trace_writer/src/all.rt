@@ -13,7 +13,7 @@ use trace_file::fault::Fault;
 fn admit_all(events: &[Timed<u32>], room: usize) -> Result<Extent, Fault>
     ensures { MatchResult result (Reaches room events.now) (λ f. StopsAt room events.now (parts f)) }
 {
-    // No `try_fold`: it leaves a goal that no short answer closes.
+    // No `try_fold`: it leaves an induction over the calls of its closure to prove, and this an invariant of one line.
     let mut extent = Extent::default();
     for timed in events {
         extent = extent.admit(*timed, room)?;
@@ -26,6 +26,7 @@ fn put_all(events: &[Timed<u32>], out: &mut [u8])
     requires { Fitting (length out.old) events.now }
     ensures { out.new ≡ written out.old 0 (bytes_of events.now) }
 {
+    // No index: commands differ in size, and each says its own.
     let mut at = 0;
     for timed in events {
         at += write(&mut out[at..], *timed);

@@ -29,7 +29,7 @@ impl Writer {
     }
 
     // Writes an event, its identifier by its number, after those before it. Answers how many there are. Gap and event come apart,
-    // as whoever puts an event has them.
+    // as most callers have them, and as this call was promised.
     pub fn put(&mut self, out: &mut [u8], gap: u32, event: Event<u32>) -> Result<u32, Fault>
         ensures outcome { Put self.old out.old (record { gap = gap; event = event }) result self.new out.new }
         ensures law { (es : List (Timed ℕ)) → Holds self.old out.old es → AfterPut es (record { gap = gap; event = event }) result self.new out.new }
@@ -46,6 +46,7 @@ impl Writer {
         ensures outcome { Closed self out.old result out.new }
         ensures law { (es : List (Timed ℕ)) → Holds self out.old es → AfterClose es result out.new }
     {
+        // A match and no `map_err`: either arm takes the writer.
         match self.extent.admit_end(out.len()) {
             Ok(size) => {
                 let Writer { extent } = self;
