@@ -1,7 +1,8 @@
 // What the program prints and writes of some traces.
 use crate::jobs;
 use crate::jobs::Stop;
-use std::alloc::Global;
+use std::alloc::{AllocError, Global};
+use std::io;
 use std::test::Fail;
 
 // A handler that calls for a thread and a switch to it, from the two recorders.
@@ -81,5 +82,23 @@ fn limits_input(rt: HostRuntime) -> Result<(), Fail> {
         line(rt.alloc(), jobs::input(rt.alloc(), more.as_slice()))?.as_str(),
         "refused,1,16,0,0"
     );
+    Ok(())
+}
+
+// Another failure is reported in its own words.
+#[test]
+fn tells_of_io(rt: HostRuntime) -> Result<(), Fail> {
+    let error = io::Error::from(io::ErrorKind::TimedOut);
+    let words = format!(in rt.alloc(); "{error}")?;
+    let stop = Stop::from(error);
+    assert_eq!(rt; format!(in rt.alloc(); "{stop}")?.as_str(), words.as_str());
+    Ok(())
+}
+
+#[test]
+fn tells_of_memory(rt: HostRuntime) -> Result<(), Fail> {
+    let words = format!(in rt.alloc(); "{}", AllocError)?;
+    let stop = Stop::from(AllocError);
+    assert_eq!(rt; format!(in rt.alloc(); "{stop}")?.as_str(), words.as_str());
     Ok(())
 }

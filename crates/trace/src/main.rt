@@ -9,6 +9,7 @@ use jobs::Stop;
 use std::env;
 use std::io::{BufWriter, Write};
 use std::process::ExitCode;
+use trace_file::fault::Fault;
 
 const USAGE: &str = "usage: trace check | show | tidy, with the trace on standard input
 
@@ -48,7 +49,8 @@ fn main(rt: HostRuntime) -> anyhow::Result<ExitCode> {
         Ok(()) => Ok(ExitCode::SUCCESS),
         Err(Stop::Refused(fault)) => {
             println!(rt; "{fault}")?;
-            eprintln!(rt; "trace: {}, at byte {}", fault.refusal, fault.place)?;
+            let Fault { refusal, place, .. } = fault;
+            eprintln!(rt; "trace: {refusal}, at byte {place}")?;
             Ok(ExitCode::FAILURE)
         }
         Err(Stop::Usage) => {

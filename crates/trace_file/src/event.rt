@@ -34,8 +34,7 @@ pub enum Operand<I> {
 }
 
 impl<I: Copy> Event<I> {
-    // The event's command byte and operand. The byte stays a number: it is the file's, and an enum of all bytes would list the
-    // events a second time.
+    // The event's command byte and operand. The byte stays a number: whoever asks for it puts it into a file.
     pub fn command(self) -> (u8, Operand<I>)
         ensures { result ≡ command self }
     {
