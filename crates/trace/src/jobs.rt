@@ -25,6 +25,7 @@ pub enum Stop {
 // The whole trace, unless it is too long.
 pub fn input<R: Read + Drop>(heap: Global, from: R) -> Result<Vec<u8>, Stop> {
     let mut bytes = Vec::new(heap);
+    // A cast, since no `From` leads from `usize` to `u64`.
     from.take(MOST_BYTES as u64 + 1).read_to_end(&mut bytes)?;
     limited(bytes.as_slice())?;
     Ok(bytes)

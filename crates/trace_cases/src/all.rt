@@ -9,7 +9,8 @@ use std::test::Fail;
 use trace_file::event::{Event, Timed};
 use trace_writer::write_all;
 
-// A case's name, which event is changed, its gap and what it becomes, how many output bytes there are, and the refusal.
+// A case's name, which event is changed, its gap and what it becomes, how many output bytes there are (a row of a
+// static can say no slice), and the refusal.
 struct Edit(&'static str, usize, u32, Event<u32>, usize, (u8, usize));
 
 static EDITS: [Edit; 9] = [

@@ -12,7 +12,8 @@ use trace_writer::writer::Writer;
 // How many output bytes the puts of one writer have.
 const RUN_ROOM: usize = 40;
 
-// A put's name, the output bytes that it is given, the gap, the event, and the answer.
+// A put's name, how many output bytes it is given, the gap, the event, and the answer. A row of a static can say a number of bytes,
+// and not which.
 struct Put(&'static str, usize, u32, Event<u32>, Answer<u32>);
 
 // Puts of one writer. Of those with `beside` in their name two refusals could be given.

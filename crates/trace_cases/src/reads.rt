@@ -7,7 +7,8 @@ use trace_file::event::{Event, Timed};
 use trace_file::fault::Parts;
 use trace_file::reader::Reader;
 
-// The next event that a reader hands out, with the number of its identifier.
+// The next event that a reader hands out, with the number of its identifier. Built here, since a `From` for `Timed` would be
+// public for this alone.
 fn next_of(reader: &mut Reader<'_>) -> Result<Option<Timed<u32>>, Parts> {
     let next = parts(reader.next())?;
     Ok(next.map(|Timed { gap, event }| Timed {

@@ -31,7 +31,8 @@ fn size_of(byte: u8) -> Option<usize>
 }
 
 impl<'a> Reader<'a> {
-    // What is refused of the command that stands here.
+    // What is refused of the command that stands here. The writer's `Extent` has its like, of another layer: no trait for the two,
+    // which would be longer than both.
     fn refused(&self, refusal: Refusal) -> Fault
         ensures { result ≡ record { layer = File; refusal = refusal; place = self.now.at } }
     {

@@ -28,6 +28,7 @@ impl Layer {
     }
 }
 
+// The cast is what reads the number off an enum, here and below.
 impl From<Layer> for u8 {
     ghost from_gives = { λ layer n. n ≡ layer_number layer };
 

@@ -26,6 +26,7 @@ fn size_with(operand: Operand<u32>) -> Option<usize>
 }
 
 impl Extent {
+    // What a writer refuses that has come so far, as a reader does of a file.
     fn refused(self, refusal: Refusal) -> Fault
         ensures { result ≡ record { layer = InWriter; refusal = refusal; place = self.at } }
     {
