@@ -2,8 +2,11 @@
 use crate::jobs;
 use crate::jobs::Stop;
 use std::alloc::{AllocError, Global};
+use std::fmt::Display;
 use std::io;
+use std::process::Abort;
 use std::test::Fail;
+use trace_file::fault::{Layer, Refusal};
 
 // A handler that calls for a thread and a switch to it, from the two recorders.
 const BLANKS: [u8; 36] =
@@ -85,20 +88,34 @@ fn limits_input(rt: HostRuntime) -> Result<(), Fail> {
     Ok(())
 }
 
-// Another failure is reported in its own words.
 #[test]
-fn tells_of_io(rt: HostRuntime) -> Result<(), Fail> {
-    let error = io::Error::from(io::ErrorKind::TimedOut);
-    let words = format!(in rt.alloc(); "{error}")?;
-    let stop = Stop::from(error);
-    assert_eq!(rt; format!(in rt.alloc(); "{stop}")?.as_str(), words.as_str());
+fn says_what_is_wrong(rt: HostRuntime) -> Result<(), Fail> {
+    let mut out = Vec::new(rt.alloc());
+    let mut said = Vec::new(rt.alloc());
+    let fault = Layer::File.refuses(Refusal::StuckClock, 85);
+    jobs::refuse(&mut out, &mut said, fault)?;
+    assert_eq!(rt; out.as_slice(), b"refused,1,3,0,85\n".as_slice());
+    assert_eq!(rt;
+        said.as_slice(),
+        b"trace: stuck clock, at byte 85\n".as_slice()
+    );
+    Ok(())
+}
+
+// A failure that is no refusal is reported in its own words.
+fn told<E: Display + Drop + Into<Stop>>(
+    rt: &impl Abort,
+    heap: Global,
+    error: E,
+) -> Result<(), Fail> {
+    let words = format!(in heap; "{error}")?;
+    let stop: Stop = error.into();
+    assert_eq!(rt; format!(in heap; "{stop}")?.as_str(), words.as_str());
     Ok(())
 }
 
 #[test]
-fn tells_of_memory(rt: HostRuntime) -> Result<(), Fail> {
-    let words = format!(in rt.alloc(); "{}", AllocError)?;
-    let stop = Stop::from(AllocError);
-    assert_eq!(rt; format!(in rt.alloc(); "{stop}")?.as_str(), words.as_str());
-    Ok(())
+fn tells_of_io_and_memory(rt: HostRuntime) -> Result<(), Fail> {
+    told(&rt, rt.alloc(), io::Error::from(io::ErrorKind::TimedOut))?;
+    told(&rt, rt.alloc(), AllocError)
 }

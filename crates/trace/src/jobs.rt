@@ -31,6 +31,13 @@ pub fn input<R: Read + Drop>(heap: Global, from: R) -> Result<Vec<u8>, Stop> {
     Ok(bytes)
 }
 
+// Prints the numbers of a refusal, and says apart what they mean.
+pub fn refuse<W: Write, S: Write>(out: &mut W, said: &mut S, fault: Fault) -> io::Result<()> {
+    writeln!(out, "{fault}")?;
+    let Fault { refusal, place, .. } = fault;
+    writeln!(said, "trace: {refusal}, at byte {place}")
+}
+
 // Prints the number of events.
 pub fn count<W: Write>(out: &mut W, file: &[u8]) -> Result<(), Stop> {
     let events = check(file)?;

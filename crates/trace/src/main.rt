@@ -9,7 +9,6 @@ use jobs::Stop;
 use std::env;
 use std::io::{BufWriter, Write};
 use std::process::ExitCode;
-use trace_file::fault::Fault;
 
 const USAGE: &str = "usage: trace check | show | tidy, with the trace on standard input
 
@@ -48,9 +47,7 @@ fn main(rt: HostRuntime) -> anyhow::Result<ExitCode> {
     match run(&rt) {
         Ok(()) => Ok(ExitCode::SUCCESS),
         Err(Stop::Refused(fault)) => {
-            println!(rt; "{fault}")?;
-            let Fault { refusal, place, .. } = fault;
-            eprintln!(rt; "trace: {refusal}, at byte {place}")?;
+            jobs::refuse(&mut rt.stdout(), &mut rt.stderr(), fault)?;
             Ok(ExitCode::FAILURE)
         }
         Err(Stop::Usage) => {

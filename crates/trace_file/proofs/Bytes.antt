@@ -1,9 +1,9 @@
--- Numbers in bytes, and the parts of a list that hold them.
+-- Numbers in bytes.
 use Rattle.std.proofs.Common.{◌≡◌, ℕ, zero, suc, ◌+◌, ◌*◌, ◌/◌, ◌%◌, ◌^◌, ◌<◌, ap, ◌∙◌, div-lt_iff_lt-mul, add_comm, pow-suc, arith, lit<}
 use native.Mathlib.Nat.{div-add-mod}
 use Rattle.trace_file.specs.File.{little, from_little}
 
--- and a number that fits is what its bytes say
+-- a number that fits is what its bytes say
 pub from_little_fits : (k n : ℕ) → n < 256 ^ k → from_little (little k n) ≡ n
 from_little_fits zero n h = omega arith
 from_little_fits (suc k) n h =

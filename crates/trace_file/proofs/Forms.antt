@@ -49,7 +49,7 @@ run_of cs from k n le e =
     }
 
 module _ (cs : List ℕ) (from to end : ℕ) (blanks : Run cs 0 Blank from) (digits : Run cs from Digit to) (rest : Run cs to Blank end) where
-  -- and every identifier is such
+  -- an identifier has digits, ends with the last run, and has blanks on one side at most
   pub only : Form cs → (from < to) × (end ≡ length cs) × ((from ≡ 0) ⊎ (to ≡ length cs))
   only h = grind arith
 

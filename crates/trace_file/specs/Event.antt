@@ -1,5 +1,6 @@
 -- The command table.
-use Rattle.std.specs.Prelude.{ℕ, List, ◌++◌, codes, decimal, Some, None, Option}
+use Rattle.std.specs.Prelude.{ℕ, List, [], ◌++◌, codes, decimal, Some, Option}
+use Rattle.std.specs.Option.{option_map}
 use Rattle.trace_file.specs.declared.event.Event.{Event}
 use Rattle.trace_file.specs.declared.event.Event.TheVariants.{NmiEntry, NmiExit, IrqEntry, IrqExit, LocalIrqDisable, LocalIrqEnable, PreemptDisable, PreemptEnable, PreemptDisableSched, ScheduleEntry, SchedSwitch, ScheduleExit, PreemptEnableSched, NeedResched, SchedWaking}
 use Rattle.trace_file.specs.declared.event.Operand.{Operand}
@@ -66,16 +67,11 @@ with f (SchedWaking t) = SchedWaking t
 abbrev pub timed_with : {I J : Type 0} → (I → J) → Timed I → Timed J
 timed_with f t = record { gap = t.gap; event = with f t.event }
 
--- what was written, a comma and what is written next, where that is known
-abbrev pub shown_after : List ℕ → Option (List ℕ) → Option (List ℕ)
-shown_after head None = None
-shown_after head (Some bs) = Some (head ++ (codes "," ++ bs))
-
 -- how an event is written, where that is known of its identifier: its name and, after a comma, its operand
-abbrev pub shown_operand : {I : Type 0} → (I → Option (List ℕ)) → List ℕ → Operand I → Option (List ℕ)
-shown_operand output head Nothing = Some head
-shown_operand output head (Identifier i) = shown_after head (output i)
-shown_operand output head (Thread t) = Some (head ++ (codes "," ++ decimal t))
+abbrev pub shown_operand : {I : Type 0} → (I → Option (List ℕ)) → Operand I → Option (List ℕ)
+shown_operand output Nothing = Some []
+shown_operand output (Identifier i) = option_map (λ bs. codes "," ++ bs) (output i)
+shown_operand output (Thread t) = Some (codes "," ++ decimal t)
 
 abbrev pub shown : {I : Type 0} → (I → Option (List ℕ)) → Event I → Option (List ℕ)
-shown output e = shown_operand output (name e) (command e).1
+shown output e = option_map (λ bs. name e ++ bs) (shown_operand output (command e).1)

@@ -1,5 +1,5 @@
 // An interrupt's identifier: four characters, digits with blanks all before or all after them.
-ghost use Rattle.std.specs.Prelude.{◌≡◌, ℕ, Some, decimal, ◌+◌, ◌^◌, ◌<◌, ◌≤◌, length, take, drop, MatchOption, ◌≢◌, slice_index};
+ghost use Rattle.std.specs.Prelude.{◌≡◌, ◌≢◌, ℕ, ◌<◌, ◌≤◌, length, Some, decimal, MatchOption, slice_index};
 ghost use Rattle.trace_file.specs.Identifier.{kind, Run, Form, number, width};
 ghost use Rattle.trace_file.specs.declared.identifier.Kind.TheVariants.{Other};
 

@@ -1,5 +1,5 @@
 // The bytes of a command, put into output bytes.
-ghost use Rattle.std.specs.Prelude.{◌≡◌, ◌+◌, ◌≤◌, ◌∷◌, length};
+ghost use Rattle.std.specs.Prelude.{◌≡◌, ◌≤◌, ◌∷◌, length};
 ghost use Rattle.trace_file.specs.Event.{command, operand_with};
 ghost use Rattle.trace_file.specs.File.{little, encoded, operand_bytes, end_command};
 ghost use Rattle.trace_file.specs.Identifier.{padded, greatest};
