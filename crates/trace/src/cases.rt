@@ -2,11 +2,12 @@
 use crate::jobs;
 use crate::jobs::Stop;
 use std::alloc::{AllocError, Global};
+use std::cell::OnceCell;
 use std::fmt::Display;
 use std::io;
 use std::process::Abort;
 use std::test::Fail;
-use trace_file::fault::{Layer, Refusal};
+use trace_file::fault::{Ground, Layer, Parts, Refusal};
 
 // A handler that calls for a thread and a switch to it, from the two recorders.
 const BLANKS: [u8; 36] =
@@ -88,16 +89,68 @@ fn limits_input(rt: HostRuntime) -> Result<(), Fail> {
     Ok(())
 }
 
+// Takes one text, printed whole by one call, and refuses a second.
+#[derive(Drop)]
+struct Once {
+    heap: Global,
+    text: OnceCell<String>,
+}
+
+impl Once {
+    fn new(heap: Global) -> Once {
+        Once {
+            heap,
+            text: OnceCell::new(),
+        }
+    }
+
+    fn text(&self) -> Option<&str> {
+        self.text.get().map(|text| text.as_str())
+    }
+}
+
+impl Print for Once {
+    fn print<D: Display + Drop>(&self, value: D) -> io::Result<()> {
+        let text = format!(in self.heap; "{value}")?;
+        self.text
+            .set(text)
+            .map_err(|_| io::ErrorKind::AlreadyExists.into())
+    }
+
+    fn println<D: Display + Drop>(&self, value: D) -> io::Result<()> {
+        self.print(format_args!("{value}\n"))
+    }
+
+    fn write_all(&self, _bytes: &[u8]) -> io::Result<()> {
+        Err(io::ErrorKind::Unsupported.into())
+    }
+}
+
 #[test]
 fn says_what_is_wrong(rt: HostRuntime) -> Result<(), Fail> {
-    let mut out = Vec::new(rt.alloc());
-    let mut said = Vec::new(rt.alloc());
+    let out = Once::new(rt.alloc());
+    let said = Once::new(rt.alloc());
     let fault = Layer::File.refuses(Refusal::StuckClock, 85);
-    jobs::refuse(&mut out, &mut said, fault)?;
-    assert_eq!(rt; out.as_slice(), b"refused,1,3,0,85\n".as_slice());
+    jobs::refuse(&out, &said, fault)?;
+    assert_eq!(rt; out.text(), Some("refused,1,3,0,85\n"));
+    assert_eq!(rt; said.text(), Some("trace: stuck clock, at byte 85\n"));
+    Ok(())
+}
+
+#[test]
+fn a_fault_is_its_numbers(rt: HostRuntime) -> Result<(), Fail> {
+    let fault = Layer::Writer.refuses(Refusal::OutOfTurn(Ground::SwitchInPass), 7);
+    let numbers = Parts {
+        layer: 5,
+        number: 7,
+        ground: 109,
+        place: 7,
+    };
+    assert_eq!(rt; fault.parts(), numbers);
+    let words = format!(in rt.alloc(); "{fault:?}")?;
     assert_eq!(rt;
-        said.as_slice(),
-        b"trace: stuck clock, at byte 85\n".as_slice()
+        words.as_str(),
+        "Parts { layer: 5, number: 7, ground: 109, place: 7 }"
     );
     Ok(())
 }

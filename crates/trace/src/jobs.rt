@@ -31,11 +31,12 @@ pub fn input<R: Read + Drop>(heap: Global, from: R) -> Result<Vec<u8>, Stop> {
     Ok(bytes)
 }
 
-// Prints the numbers of a refusal, and says apart what they mean.
-pub fn refuse<W: Write, S: Write>(out: &mut W, said: &mut S, fault: Fault) -> io::Result<()> {
-    writeln!(out, "{fault}")?;
+// Prints the numbers of a refusal, and says apart what they mean. `Print` and no `Write`: without a buffer, a `writeln!` would write
+// each line in pieces.
+pub fn refuse<O: Print, S: Print>(out: &O, said: &S, fault: Fault) -> io::Result<()> {
+    println!(out; "{fault}")?;
     let Fault { refusal, place, .. } = fault;
-    writeln!(said, "trace: {refusal}, at byte {place}")
+    println!(said; "trace: {refusal}, at byte {place}")
 }
 
 // Prints the number of events.

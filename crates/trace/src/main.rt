@@ -47,7 +47,7 @@ fn main(rt: HostRuntime) -> anyhow::Result<ExitCode> {
     match run(&rt) {
         Ok(()) => Ok(ExitCode::SUCCESS),
         Err(Stop::Refused(fault)) => {
-            jobs::refuse(&mut rt.stdout(), &mut rt.stderr(), fault)?;
+            jobs::refuse(&rt.stdout(), &rt.stderr(), fault)?;
             Ok(ExitCode::FAILURE)
         }
         Err(Stop::Usage) => {

@@ -1,8 +1,8 @@
 -- The characters of an identifier, as runs of one kind.
-use Rattle.std.proofs.Common.{◌≡◌, ℕ, suc, ◌+◌, ◌-◌, ◌*◌, ◌^◌, ◌<◌, ◌≤◌, Bool, true, false, cond, eqb, leb, ◌⊎◌, List, [], ◌∷◌, length, get_or, drop, sym, refl, ap, ◌∙◌, inl, inr, ⊎_elim, mul-le-mul_right, mul_assoc, arith, length-drop}
+use Rattle.std.proofs.Common.{◌≡◌, ℕ, suc, ◌+◌, ◌-◌, ◌*◌, ◌^◌, ◌<◌, ◌≤◌, Bool, true, false, cond, eqb, leb, ◌⊎◌, List, [], ◌∷◌, length, get_or, drop, sym, refl, ap, ◌∙◌, inl, inr, ⊎_elim, mul-le-mul_right, mul_assoc, pow-suc, add-one, arith, length-drop}
 use native.Mathlib.Nat.{pow-succ'}
 use Rattle.std.specs.List.{prefix_len}
-use Rattle.std.proofs.lemmas.List.{get_or-drop}
+use Rattle.std.proofs.lemmas.List.{get_or-drop, at_drop_more, at_drop_all}
 use Rattle.std.proofs.lemmas.List.Sums.{prefix_len_passes, prefix_len_stops, prefix_len-le-length}
 use Rattle.std.proofs.lemmas.Bool.{false≢true, cases_eq, cases_lt, ne_eqb, eq-eqb, lt-leb, and_right, cond-true, cond-false}
 use Rattle.trace_file.specs.declared.identifier.Kind.{Kind}
@@ -49,6 +49,26 @@ run_of cs from k n le e =
     }
 
 module _ (cs : List ℕ) (from to end : ℕ) (blanks : Run cs 0 Blank from) (digits : Run cs from Digit to) (rest : Run cs to Blank end) where
+  -- the digits of an identifier are the run of digits
+  same_from : (f : Form cs) → f.from ≡ from
+  same_from f = grind arith
+
+  same_to : (f : Form cs) → f.to ≡ to
+  same_to f = grind arith
+
+  -- characters with no blank left over are an identifier
+  pub formed : from < to → end ≡ length cs → (from ≡ 0) ⊎ (to ≡ length cs) → Form cs
+  formed some full side = record {
+    from = from;
+    to = to;
+    some = some;
+    within = digits.within;
+    before = λ k lt. blanks.all k (omega arith) lt;
+    digits = digits.all;
+    after = λ k le lt. rest.all k le (omega arith);
+    one_side = side;
+  }
+
   -- an identifier has digits, ends with the last run, and has blanks on one side at most
   pub only : Form cs → (from < to) × (end ≡ length cs) × ((from ≡ 0) ⊎ (to ≡ length cs))
   only h = grind arith
@@ -60,6 +80,23 @@ other c ne lt = rw (ne_eqb c 32 ne, and_right (leb 48 c) (leb c 57) (lt-leb c 57
 pub record Said (cs : List ℕ) (i n : ℕ) : Type 0 where
   pub small : n < 10 ^ i
   pub rest : number_after n (drop i cs) ≡ number cs
+
+-- one more character is read
+module _ (cs : List ℕ) (i n : ℕ) (said : Said cs i n) (lt : i < length cs) where
+  step : number_after n (drop i cs) ≡ number_after (cond (eqb (get_or cs i 0) 32) n (n * 10 + (get_or cs i 0 - 48))) (drop (i + 1) cs)
+  step = at_drop_more (number_after n) cs i 0 lt
+
+  ten : 10 ^ (i + 1) ≡ 10 ^ i * 10
+  ten = rw add-one (pow-suc 10 i)
+
+  pub said_digit : (m : ℕ) → (get_or cs i 0 ≡ 32 → ⊥) → (kind (get_or cs i 0) ≡ Other → ⊥) → m ≡ n * 10 + (get_or cs i 0 - 48) → Said cs (i + 1) m
+  said_digit m ne plain e = grind (arith, step, ten)
+
+  pub said_blank : (m : ℕ) → get_or cs i 0 ≡ 32 → m ≡ n → Said cs (i + 1) m
+  said_blank m eq e = grind (arith, step, ten)
+
+pub said_all : (cs : List ℕ) (i n : ℕ) → Said cs i n → length cs ≤ i → n ≡ number cs
+said_all cs i n said le = sym (at_drop_all (number_after n) cs i le) ∙ said.rest
 
 -- digits say less than one more than there is room for
 below_room : (cs : List ℕ) (n : ℕ) → ((i : ℕ) → i < length cs → kind (get_or cs i 0) ≡ Other → ⊥) → number_after n cs < (n + 1) * 10 ^ length cs

@@ -1,7 +1,7 @@
 -- A number padded with zeros is an identifier that says that number.
-use Rattle.std.proofs.Common.{◌≡◌, ℕ, zero, suc, ◌+◌, ◌/◌, ◌%◌, ◌<◌, ◌≤◌, get_or, refl, inl, arith, lit<, lit≤}
+use Rattle.std.proofs.Common.{◌≡◌, ℕ, zero, suc, ◌+◌, ◌*◌, ◌/◌, ◌%◌, ◌<◌, ◌≤◌, List, [], ◌∷◌, get_or, refl, inl, arith, lit<, lit≤}
 use Rattle.trace_file.specs.declared.identifier.Kind.TheVariants.{Digit}
-use Rattle.trace_file.specs.Identifier.{kind, Form, number, padded}
+use Rattle.trace_file.specs.Identifier.{kind, Form, number, number_after, padded}
 
 kind_digit : (d : ℕ) → d < 10 → kind (48 + d) ≡ Digit
 kind_digit d h = grind arith
@@ -25,6 +25,13 @@ module _ (n : ℕ) (h : n ≤ 9999) where
     after = λ k le lt. absurd (omega arith);
     one_side = inl refl;
   }
+
+-- one more digit is read
+digit_after : (m d : ℕ) (cs : List ℕ) → number_after m ((48 + d) ∷ cs) ≡ number_after (m * 10 + d) cs
+digit_after m d cs = grind arith
+
+four_digits : (a b c d : ℕ) → number ((48 + a) ∷ (48 + b) ∷ (48 + c) ∷ (48 + d) ∷ []) ≡ (((0 * 10 + a) * 10 + b) * 10 + c) * 10 + d
+four_digits a b c d = grind arith
 
 pub number-padded : (n : ℕ) → number (padded n) ≡ n
 number-padded n = grind arith

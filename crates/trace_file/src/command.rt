@@ -44,7 +44,7 @@ impl<'a> Reader<'a> {
         requires { from + N ≤ length self.now.rest.now }
         ensures { Stands N (T.value result) (drop from self.now.rest.now) }
     {
-        T::from_little(self.rest[from..].first_chunk().unwrap())
+        T::from_little(&self.rest[from..])
     }
 
     // The identifier of a command whose nine bytes stand here.

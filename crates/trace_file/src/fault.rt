@@ -158,7 +158,7 @@ impl fmt::Display for Refusal {
 }
 
 // A refusal, with the layer that met it and its place.
-#[derive(Clone, Copy, Debug, PartialEq, Eq)]
+#[derive(Clone, Copy, PartialEq, Eq)]
 pub struct Fault {
     pub layer: Layer,
     pub refusal: Refusal,
@@ -187,6 +187,15 @@ impl From<Fault> for Parts {
     }
 }
 
+impl Fault {
+    // The fault in numbers: `Parts::from`, as a method.
+    pub fn parts(self) -> Parts
+        ensures { result ≡ parts self }
+    {
+        Parts::from(self)
+    }
+}
+
 impl fmt::Display for Fault {
     ghost output = { λ f. Some (line_of (parts f)) };
 
@@ -198,6 +207,13 @@ impl fmt::Display for Fault {
             place,
         } = Parts::from(*self);
         write!(f, "refused,{layer},{number},{ground},{place}")
+    }
+}
+
+// By its numbers, as all else that is printed of a fault.
+impl fmt::Debug for Fault {
+    fn fmt<W: fmt::Write>(&self, f: &mut fmt::Formatter<W>) -> fmt::Result {
+        Parts::from(*self).fmt(f)
     }
 }
 

@@ -51,10 +51,9 @@ fn run_end(chars: &[u8], from: usize, of: Kind) -> usize
     requires { from ≤ length chars.now }
     ensures { Run chars.now from «of» result }
 {
-    from + chars[from..]
-        .iter()
-        .take_while(|c| kind_of(**c) == of)
-        .count()
+    (from..chars.len())
+        .find(|end| kind_of(chars[*end]) != of)
+        .unwrap_or(chars.len())
 }
 
 // The number that the digits say. The characters are known to be digits and blanks.

@@ -7,8 +7,8 @@ use Rattle.trace_file.specs.declared.fault.Parts.{Parts}
 use Rattle.trace_file.specs.Fault.{First}
 use Rattle.trace_file.specs.File.{FileOf, encoded, end_command}
 use Rattle.trace_writer.specs.declared.extent.Extent.{Extent}
-use Rattle.trace_writer.specs.All.{Reaches, StopsAt, WroteAll}
-use Rattle.trace_writer.specs.Writing.{written, command_for, bytes_of, Admitted, put_refusals}
+use Rattle.trace_writer.specs.All.{Fitting, Reaches, StopsAt, StopsAtEnd, WroteAll}
+use Rattle.trace_writer.specs.Writing.{written, command_for, bytes_of, Admitted, put_refusals, close_refusals}
 use Rattle.trace_writer.proofs.Held.{bytes_push, file_of}
 use Rattle.trace_writer.proofs.Writes.{take_written}
 
@@ -41,6 +41,9 @@ module _ (es : List (Timed ℕ)) (i : ℕ) (d : Timed ℕ) (lt : i < length es) 
 
 pub all_done : (room : ℕ) (es : List (Timed ℕ)) (i : ℕ) (x : Extent) → Reaches room (take i es) x → length es ≤ i → Reaches room es x
 all_done room es i x sofar le = subst (λ l. Reaches room l x) (take_all i es le) sofar
+
+pub stops_at_end : (room : ℕ) (es : List (Timed ℕ)) (at : ℕ) (p : Parts) → Fitting room es × (at ≡ length (bytes_of es)) → First (close_refusals at room) p → StopsAtEnd room es p
+stops_at_end room es at p done first = record { fitting = done.0; first = subst (λ n. First (close_refusals n room) p) done.1 first }
 
 pub wrote_all : (es : List (Timed ℕ)) (out : List ℕ) (x : Extent) (n : ℕ) (after : List ℕ) → Reaches (length out) es x → n ≡ x.at + 5 → n ≤ length out → after ≡ written out 0 (bytes_of es ++ end_command x.events) → WroteAll es out n after
 wrote_all es out x n after done size room bytes =

@@ -1,11 +1,20 @@
 -- Bytes written after one another, and the bytes of a command.
 use Rattle.std.proofs.lemmas.Grind.{common_steps}
-use Rattle.std.proofs.Common.{◌≡◌, ℕ, ◌+◌, ◌-◌, ◌≤◌, List, [], ◌++◌, length, take, drop, sym, ap, ◌∙◌, append_assoc, zero-add, arith, length-append, length-drop}
+use Rattle.std.proofs.Common.{◌≡◌, ℕ, ◌+◌, ◌-◌, ◌/◌, ◌%◌, ◌≤◌, List, [], ◌∷◌, ◌++◌, length, take, drop, sym, ap, ◌∙◌, append_assoc, zero-add, arith, length-append, length-drop}
 use Rattle.std.proofs.lemmas.List.{append-nil, take_all, take_at, drop_all, drop_at, drop-drop, length-take-le}
-use Rattle.trace_writer.specs.Writing.{written}
+use Rattle.trace_file.specs.declared.event.Event.{Event}
+use Rattle.trace_file.specs.declared.event.Operand.{Operand}
+use Rattle.trace_file.specs.Event.{command, operand_with}
+use Rattle.trace_file.specs.File.{little, operand_bytes, encoded}
+use Rattle.trace_file.specs.Identifier.{padded}
+use Rattle.trace_file.proofs.Commands.{encoded-with}
+use Rattle.trace_writer.specs.Writing.{written, command_for}
 
 pub length-written : (out : List ℕ) (at : ℕ) (xs : List ℕ) → at + length xs ≤ length out → length (written out at xs) ≡ length out
 length-written out at xs h = grind (arith, common_steps)
+
+pub written_none : (out : List ℕ) (at : ℕ) → written out at [] ≡ out
+written_none out at = grind (arith, common_steps)
 
 module _ (out : List ℕ) (at : ℕ) (xs : List ℕ) (h : at ≤ length out) where
   grouped : written out at xs ≡ (take at out ++ xs) ++ drop (at + length xs) out
@@ -53,6 +62,9 @@ written_inside out xs ys zs ws at is same =
 pub written_again : (out ys zs : List ℕ) → length ys ≡ length zs → written (written out 0 ys) 0 zs ≡ written out 0 zs
 written_again out ys zs h = grind (arith, common_steps)
 
+pub little_four : (n : ℕ) → ◌≡◌ {A = List ℕ} (n % 256 ∷ n / 256 % 256 ∷ n / 65536 % 256 ∷ n / 16777216 % 256 ∷ []) (little 4 n)
+little_four n = grind arith
+
 -- bytes that are written over the front of the bytes from a place on are written there
 pub placed : (out part bs : List ℕ) (at : ℕ) → at + length bs ≤ length out → part ≡ written (take (length out - at) (drop at out)) 0 bs → take at out ++ (part ++ drop (length out - at) (drop at out)) ≡ written out at bs
 placed out part bs at fits front =
@@ -60,3 +72,14 @@ placed out part bs at fits front =
     let none : drop (length out - at) (drop at out) ≡ [] = drop_all (length out - at) (drop at out) (omega (arith, length-drop at out)) in
     let whole : part ≡ bs ++ drop (at + length bs) out = front ∙ ap (λ l. bs ++ drop (0 + length bs) l) rest ∙ ap (λ n. bs ++ drop n (drop at out)) (zero-add (length bs)) ∙ ap (λ l. bs ++ l) (drop-drop (length bs) at out) in
     ap (λ l. take at out ++ (part ++ l)) none ∙ ap (λ l. take at out ++ l) (append-nil part ∙ whole)
+
+module _ (gap : ℕ) (e : Event ℕ) (b : ℕ) (o : Operand ℕ) (is : (b, o) ≡ command e) where
+  -- the bytes of a command, by its table entry
+  pub bytes_are : encoded (command_for (record { gap = gap; event = e })) ≡ b ∷ (little 4 gap ++ operand_bytes (operand_with padded o))
+  bytes_are = encoded-with padded (record { gap = gap; event = e }) ∙ ap (λ c. c.0 ∷ (little 4 gap ++ operand_bytes (operand_with padded c.1))) (sym is)
+
+  pub command_written : (out p q r : List ℕ) (at : ℕ) → at ≤ length out → p ≡ written out at (b ∷ []) → q ≡ written p (at + 1) (little 4 gap) → r ≡ written q (at + 5) (operand_bytes (operand_with padded o)) → r ≡ written out at (encoded (command_for (record { gap = gap; event = e })))
+  command_written out p q r at fits first second third =
+      let bs = operand_bytes (operand_with padded o) in
+      let front = second ∙ ap (λ l. written l (at + 1) (little 4 gap)) first ∙ written_more out at (b ∷ []) fits (little 4 gap) in
+      third ∙ ap (λ l. written l (at + 5) bs) front ∙ written_more out at (b ∷ little 4 gap) fits bs ∙ ap (written out at) (sym bytes_are)
